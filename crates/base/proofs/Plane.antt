@@ -1,5 +1,5 @@
--- Laws of `filled`. Assumes nothing.
-use mathlib.Core.Path.{_≡_, refl, sym, ap, _∙_}
+-- Laws of `filled`, by which a loop writes a plane, and of `byRow`. Assumes nothing.
+use mathlib.Core.Path.{_≡_, refl, sym, ap, _∙_, subst⁻¹}
 use mathlib.Core.List.{List}
 use mathlib.Core.Logic.{_⊎_, inl, inr, ⊎-elim}
 use mathlib.Core.Bool.{Bool, true, false}
@@ -10,13 +10,10 @@ use native.Mathlib.Omega.{arith}
 use native.Mathlib.Numerals.{add-one}
 use lib.ListN.{length, getD, set, length-set}
 use lib.Seq.{getD-set-same, getD-set-other, ext-getD}
-use Rattle.base.specs.Loops.{turns}
-use Rattle.base.specs.Loops.{fillAt, filled, byRow}
-use Rattle.base.proofs.Turns.{turns-begin, turns-step, turns-end, turns-keep, turns-more}
+use Rattle.base.specs.Loops.{turns, fillAt, filled, byRow}
+use Rattle.base.proofs.Turns.{turns-begin, turns-step, turns-keep, turns-cong}
 use lib.Arith.{digits-div, digits-mod}
-use native.Mathlib.Nat.{eq-or-lt-of-le, mul-comm, add-comm, add-mul-mod-self-right}
-use mathlib.Core.Path.{subst⁻¹}
-use borrow.Author.Count.{below-more}
+use native.Mathlib.Nat.{eq-or-lt-of-le}
 
 pub le-or-lt : (n k : ℕ) → (n ≤ k) ⊎ (k < n)
 le-or-lt n k = by-test (leb n k) refl
@@ -42,7 +39,7 @@ module _ {A : Type 0} (f : ℕ → A) (l : List A) where
   unfolding filled
   length-filled n = turns-keep (fillAt f) l (λ b. length b ≡ length l) refl (λ k b e. length-set b k (f k) ∙ e) n
 
-  filled-suc : (n : ℕ) → filled f (suc n) l ≡ set (filled f n l) n (f n)
+  pub filled-suc : (n : ℕ) → filled f (suc n) l ≡ set (filled f n l) n (f n)
   unfolding filled turns
   filled-suc n = refl
 
@@ -75,6 +72,21 @@ module _ {A : Type 0} (f : ℕ → A) (l : List A) where
       (λ w. o k w ∙ sym (filled-past n k d w))
       (λ w. i k w ∙ sym (filled-at n k d w r))
       (le-or-lt n k))
+
+-- two tables with the same entries
+pub filled-cong : {A : Type 0} (f g : ℕ → A) (n : ℕ) (l : List A) → ((k : ℕ) → k < n → f k ≡ g k) → filled f n l ≡ filled g n l
+unfolding filled
+filled-cong f g n l h = turns-cong (fillAt f) (fillAt g) l n (λ k b r. ap (set b k) (h k r))
+
+-- what stood there before does not matter where all of it is written anew
+pub filled-over : {A : Type 0} (f g : ℕ → A) (m n : ℕ) (l : List A) → m ≤ n → n ≤ length l → filled f n (filled g m l) ≡ filled f n l
+filled-over f g m zero l h r = ap (filled f 0) (sym (filled-end g l 0 m (filled-begin g l) (omega arith)))
+filled-over f g m (suc n) l h r =
+    let b = filled g m l in
+    let e : suc n ≤ length b = omega (arith, length-filled g l m) in
+    filled-is f l (suc n) (f 0) (filled f (suc n) b) r (length-filled f b (suc n) ∙ length-filled g l m)
+    (λ k i. filled-at f b (suc n) k (f 0) i e)
+    (λ k i. filled-past f b (suc n) k (f 0) i ∙ filled-past g l m k (f 0) (omega arith))
 
 -- the entry at column x and row y
 pub by-row : {A : Type 0} (f : ℕ → ℕ → A) (w x y : ℕ) → x < w → byRow w f (y * w + x) ≡ f x y

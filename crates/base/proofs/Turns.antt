@@ -1,7 +1,7 @@
 -- Laws of `turns`. Assumes nothing.
 use mathlib.Core.Path.{_≡_, refl, sym, ap, _∙_, subst}
-use native.Mathlib.Nat.{add-zero, add-suc}
-use Prim.Native.Nat.{ℕ, zero, suc, _+_, _-_, _≤_}
+use native.Mathlib.Nat.{add-zero, add-suc, zero-mul, suc-mul}
+use Prim.Native.Nat.{ℕ, zero, suc, _+_, _*_, _-_, _≤_, _<_}
 use native.Mathlib.Omega.{arith}
 use native.Mathlib.Numerals.{add-one}
 use Rattle.base.specs.Loops.{turns, between}
@@ -20,6 +20,34 @@ module _ {A : Type 0} (f : ℕ → A → A) (a : A) where
   unfolding turns
   turns-keep P p s zero = p
   turns-keep P p s (suc n) = s n (turns n f a) (turns-keep P p s n)
+
+  -- what holds at first, and goes from each turn to the next
+  pub turns-each : (P : ℕ → A → Type 0) → P 0 a → ((k : ℕ) (x : A) → P k x → P (k + 1) (f k x)) → (n : ℕ) → P n (turns n f a)
+  unfolding turns
+  turns-each P p s zero = p
+  turns-each P p s (suc n) = subst (λ k. P k (f n (turns n f a))) (add-one n) (s n (turns n f a) (turns-each P p s n))
+
+  -- m turns, and then n more
+  pub turns-add : (m n : ℕ) → turns (m + n) f a ≡ turns n (λ k. f (m + k)) (turns m f a)
+  unfolding turns
+  turns-add m zero = rw add-zero
+  turns-add m (suc n) = rw add-suc (ap (f (m + n)) (turns-add m n))
+
+-- the turns of h rows of w, row by row
+pub turns-rows : {A : Type 0} (f : ℕ → A → A) (a : A) (w h : ℕ) → turns (h * w) f a ≡ turns h (λ y. turns w (λ x. f (y * w + x))) a
+unfolding turns
+turns-rows f a w zero = rw zero-mul
+turns-rows f a w (suc h) =
+    ap (λ n. turns n f a) (suc-mul h w)
+    ∙ turns-add f a (h * w) w
+    ∙ ap (turns w (λ x. f (h * w + x))) (turns-rows f a w h)
+
+-- two loops whose turns agree
+pub turns-cong : {A : Type 0} (f g : ℕ → A → A) (a : A) (n : ℕ) → ((k : ℕ) (x : A) → k < n → f k x ≡ g k x) → turns n f a ≡ turns n g a
+unfolding turns
+turns-cong f g a zero h = refl
+turns-cong f g a (suc n) h =
+    ap (f n) (turns-cong f g a n (λ k x r. h k x (omega arith))) ∙ h n (turns n g a) (omega arith)
 
 -- a loop's first head, a turn, and the end
 module _ {A : Type 0} (f : ℕ → A → A) (a : A) where
@@ -66,3 +94,15 @@ module _ {A : Type 0} (f : ℕ → A → A) (a e : A) (keep : (k : ℕ) → f k 
   turns-leave k n s l h =
       turns-stay f a (λ x. x ≡ e) (λ i x p. ap (f i) p ∙ keep i) (k + 1) n h
       (sym (turns-step f a k s) ∙ l)
+
+-- the same for `between`
+module _ {A : Type 0} (lo : ℕ) (f : ℕ → A → A) (a : A) where
+  pub between-keep : (P : A → Type 0) → P a → ((k : ℕ) (x : A) → P x → P (f k x)) → (hi : ℕ) → P (between lo hi f a)
+  unfolding between
+  between-keep P p s hi = turns-keep (λ k. f (lo + k)) a P p (λ k x. s (lo + k) x) (hi - lo)
+
+  pub between-leave : (e : A) → ((k : ℕ) → f k e ≡ e) → (k hi : ℕ) {b : A} → lo ≤ k → b ≡ between lo k f a → f k b ≡ e → k + 1 ≤ hi → between lo hi f a ≡ e
+  unfolding between
+  between-leave e keep k hi {b} h s l r =
+      let p : lo + (k - lo) ≡ k = omega arith in
+      turns-leave (λ j. f (lo + j)) a e (λ j. keep (lo + j)) (k - lo) (hi - lo) s (ap (λ j. f j b) p ∙ l) (omega arith)

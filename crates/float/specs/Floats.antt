@@ -45,6 +45,10 @@ narrowed nan = nan
 narrowed (inf s) = inf s
 narrowed (fin s m e) = round binary32 s (m * up e) (down e)
 
+-- "widening is exact": one type of values serves both formats
+abbrev pub widened : Float → Float
+widened x = x
+
 -- "`round`: halves away from zero"
 unfoldable pub roundOf : Float → Float
 roundOf nan = nan

@@ -1,0 +1,2 @@
+-- Lemmas of `float::rounding`: halves.
+pub mod Rounded

@@ -1,0 +1,2 @@
+-- Lemmas of `float::sign`: the sign bit.
+pub mod Signs

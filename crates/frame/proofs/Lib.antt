@@ -1,0 +1,7 @@
+-- Laws that other crates' proofs cite.
+pub mod Tests
+pub mod Lowest
+pub mod Given
+pub mod Held
+pub mod Pixels
+pub mod Rectangles

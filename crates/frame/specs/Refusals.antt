@@ -1,0 +1,91 @@
+-- Limits and refusals (document 01, "Limits" and "Refusals by who can cause them"): what every layer shares. Assumes nothing.
+use Prim.Native.Nat.{ℕ, zero, suc, _*_, _≤_, _<_}
+use mathlib.Core.Path.{_≡_}
+use mathlib.Core.Bool.{Bool, cond, not, _&&_, _||_}
+use mathlib.Core.List.{List, [], _∷_}
+use mathlib.Core.Logic.{_⊎_}
+use lib.Dec.{T, leb, ltb, eqb}
+use lib.ListN.{length}
+use Rattle.frame.specs.Image.{Image}
+use Rattle.frame.specs.declared.FrameSpec.{FrameSpec}
+use Rattle.frame.specs.declared.Verdict.{Verdict}
+use Rattle.frame.specs.declared.Verdict.the-variants.{Accepted, Refused}
+
+-- ---- the number of an answer: 0 when accepted
+
+unfoldable pub numberOf : Verdict → ℕ
+numberOf Accepted = 0
+numberOf (Refused n) = n
+
+-- .. and the answer of a number
+unfoldable pub verdictOf : ℕ → Verdict
+verdictOf zero = Accepted
+verdictOf (suc n) = Refused (suc n)
+
+-- "The lowest number that applies is given": n is the lowest number whose condition C n holds, or 0 where no condition holds
+pub data Lowest (C : ℕ → Type 0) (n : ℕ) : Type 0 where
+  accepted : n ≡ 0 → ((k : ℕ) → C k → ⊥) → Lowest C n
+  refused : C n → ((k : ℕ) → k < n → C k → ⊥) → Lowest C n
+
+-- a refusal number and the test that calls for it
+pub record Check : Type 0 where
+  pub number : ℕ
+  pub holds : Bool
+
+abbrev pub check : ℕ → Bool → Check
+check n b = record { number = n; holds = b }
+
+-- one of the tests calls for n
+abbrev pub Tested : ℕ → List Check → Type 0
+Tested n [] = ⊥
+Tested n (c ∷ l) = ((n ≡ c .number) × T (c .holds)) ⊎ Tested n l
+
+-- the number of the first test of a list that holds, or 0: the lowest, in a list whose numbers rise
+unfoldable pub lowestOf : List Check → ℕ
+lowestOf [] = 0
+lowestOf (c ∷ l) = cond (c .holds) (c .number) (lowestOf l)
+
+-- ---- limits
+
+-- "sides 1 to 4,096"
+unfoldable pub side : ℕ → Bool
+side n = leb 1 n && leb n 4096
+
+-- "cell 1 to 512", "margin 0 to 4,096"
+unfoldable pub cellHeld : ℕ → Bool
+cellHeld n = leb 1 n && leb n 512
+
+-- "1: a frame number outside its limit"
+unfoldable pub frameOutside : FrameSpec → Bool
+frameOutside f = not (side (f .width) && side (f .height) && cellHeld (f .cell) && leb (f .margin) 4096)
+
+-- "lone w and h are capture sides"
+unfoldable pub sidesWrong : ℕ → ℕ → Bool
+sidesWrong w h = not (side w && side h)
+
+-- "2: capture side outside its limit, or byte length wrong"
+unfoldable pub captureWrong : Image → Bool
+captureWrong img = not (side (img .w) && side (img .h) && eqb (length (img .bytes)) (3 * img .w * img .h))
+
+-- "6: capture side below 32"
+unfoldable pub captureSmall : Image → Bool
+captureSmall img = ltb (img .w) 32 || ltb (img .h) 32
+
+-- `cols`, `rows`, `frame_spec`, `FrameSpec::new`
+unfoldable pub frameTests : FrameSpec → List Check
+frameTests f = check 1 (frameOutside f) ∷ []
+
+-- `Radial::new`: "lone w and h are capture sides"
+unfoldable pub sideTests : ℕ → ℕ → List Check
+sideTests w h = check 2 (sidesWrong w h) ∷ []
+
+-- `bilinear`
+unfoldable pub captureTests : Image → List Check
+captureTests img = check 2 (captureWrong img) ∷ []
+
+-- ---- a function of numbers: marker_size, quiet_zone, margin_for, frame_spec, new, cols, rows, marker_centers, Radial::new, bilinear, fit_for and, with
+-- no tests, apply, distort, undistort, mat3_mul, rms_error. It is refused by its tests, and else gives the value; none stands for it where it is refused.
+pub record Answered {A : Type 0} (tests : List Check) (value none : A) (v : Verdict) (r : A) : Type 0 where
+  pub given : v ≡ verdictOf (lowestOf tests)
+  pub accepted : lowestOf tests ≡ 0 → r ≡ value
+  pub refused : 1 ≤ lowestOf tests → r ≡ none

@@ -1,0 +1,4 @@
+-- Laws of the definitions.
+pub mod Steps
+pub mod Rows
+pub mod Ends

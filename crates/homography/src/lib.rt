@@ -1,0 +1,230 @@
+// 3x3 matrices and the homography of four points.
+//
+// A homography takes a point (x, y) to (u, v), with a third coordinate W that is divided out:
+//
+//     [ X ]   [ h0 h1 h2 ] [ x ]
+//     [ Y ] = [ h3 h4 h5 ] [ y ],    u = X / W,   v = Y / W.
+//     [ W ]   [ h6 h7 h8 ] [ 1 ]
+//
+// Only the ratios of the nine entries matter, so the last is set to 1, and eight are left. A point
+// whose image is known gives two equations. Multiply u = X / W and v = Y / W by W:
+//
+//     h0 x + h1 y + h2 = u (h6 x + h7 y + 1)
+//     h3 x + h4 y + h5 = v (h6 x + h7 y + 1)
+//
+// and bring the unknowns to the left: each is one row, linear in h0 .. h7,
+//
+//     [ x  y  1  0  0  0  -u x  -u y ] h = u
+//     [ 0  0  0  x  y  1  -v x  -v y ] h = v.
+//
+// Four points give eight rows: the direct linear transform with last entry 1 (Hartley and Zisserman,
+// Multiple View Geometry, 4.1). proofs/Transform shows over whole numbers that the rows hold exactly
+// when the matrix takes each point to its target. Over f64 every product and quotient is rounded,
+// and the contracts say what comes out to the bit.
+mod solve;
+
+use frame::Point;
+use frame::Quad;
+use frame::Verdict;
+ghost use mathlib.Core.Path.{_≡_};
+ghost use Prim.Native.Nat.{_<_};
+ghost use Rattle.homography.specs.Equations as dlt;
+ghost use Rattle.homography.specs.Homography as mat;
+
+// Nine entries by rows: entry j of row i stands at i * 3 + j.
+pub type Mat3 = [f64; 9];
+
+// The matrix product a b.
+pub fn mat3_mul(a: &Mat3, b: &Mat3) -> Mat3
+    ensures { λ r. ⌜ r ≡ mat.mat3Mul (now (a .entry)) (now (b .entry)) ⌝ }
+{
+    let mut out = [0.0; 9];
+    for n in 0..9 {
+        let i = n / 3 * 3;
+        let j = n % 3;
+        out[n] = a[i] * b[j] + a[i + 1] * b[3 + j] + a[i + 2] * b[6 + j];
+    }
+    out
+}
+
+// A plane-to-plane projective map.
+pub struct Homography {
+    pub m: [f64; 9],
+}
+
+// What from_points and inverse give: the matrix beside the enum, and the identity where it is refused.
+pub struct Solved {
+    pub verdict: Verdict,
+    pub h: Homography,
+}
+
+// Row r of the equations.
+fn set_row(a: &mut [f64; 72], r: usize, row: [f64; 9])
+    requires { ⌜ r < 8 ⌝ }
+    ensures { λ _. ⌜ now (a .exit) ≡ dlt.rowSet r row (now (a .entry)) ⌝ }
+{
+    for j in 0..9 {
+        let i = r * 9 + j;
+        a[i] = row[j];
+    }
+}
+
+// Both rows of the point i, which goes from p to q.
+fn set_point(a: &mut [f64; 72], i: usize, p: Point, q: Point)
+    requires { ⌜ i < 4 ⌝ }
+    ensures { λ _. ⌜ now (a .exit) ≡ dlt.pointSet i p q (now (a .entry)) ⌝ }
+{
+    let x = p.x;
+    let y = p.y;
+    let u = q.x;
+    let v = q.y;
+    set_row(a, 2 * i, [x, y, 1.0, 0.0, 0.0, 0.0, -u * x, -u * y, u]);
+    set_row(a, 2 * i + 1, [0.0, 0.0, 0.0, x, y, 1.0, -v * x, -v * y, v]);
+}
+
+// The eight equations.
+fn equations(src: Quad, dst: Quad) -> [f64; 72]
+    ensures { λ r. ⌜ r ≡ dlt.equations src dst ⌝ }
+{
+    let mut a = [0.0; 72];
+    set_point(&mut a, 0, src.tl, dst.tl);
+    set_point(&mut a, 1, src.tr, dst.tr);
+    set_point(&mut a, 2, src.br, dst.br);
+    set_point(&mut a, 3, src.bl, dst.bl);
+    a
+}
+
+// The third coordinate that apply divides by: at w = 0 the point lies on the line that goes to
+// infinity, and around it the quotient would be infinite or a NaN.
+fn divisor(w: f64) -> f64
+    ensures { λ r. ⌜ r ≡ mat.divisor w ⌝ }
+{
+    if float::abs(w) < 1e-12 { 1e-12 } else { w }
+}
+
+impl Homography {
+    pub fn identity() -> Self
+        ensures { λ r. ⌜ r ≡ dlt.identity ⌝ }
+    {
+        let m = [1.0, 0.0, 0.0, 0.0, 1.0, 0.0, 0.0, 0.0, 1.0];
+        Self { m: m }
+    }
+
+    pub fn from_mat(m: Mat3) -> Self
+        ensures { λ r. ⌜ r .m ≡ m ⌝ }
+    {
+        Self { m: m }
+    }
+
+    // The homography that takes each point of src to that of dst; refusal 10 where the equations
+    // have no pivot.
+    pub fn from_points(src: Quad, dst: Quad) -> Solved
+        ensures { λ r. ⌜ r ≡ dlt.fromPoints src dst ⌝ }
+    {
+        let a = equations(src, dst);
+        let s = solve::solve8(a);
+        if s.ok {
+            let t = s.h;
+            let m = [t[0], t[1], t[2], t[3], t[4], t[5], t[6], t[7], 1.0];
+            let h = Self::from_mat(m);
+            return Solved {
+                verdict: Verdict::Accepted,
+                h: h,
+            };
+        }
+        let h = Self::identity();
+        Solved {
+            verdict: Verdict::Refused(10),
+            h: h,
+        }
+    }
+
+    // Where the matrix takes p.
+    pub fn apply(self, p: Point) -> Point
+        ensures { λ r. ⌜ r ≡ mat.apply self p ⌝ }
+    {
+        let m = self.m;
+        let w = divisor(m[6] * p.x + m[7] * p.y + m[8]);
+        Point {
+            x: (m[0] * p.x + m[1] * p.y + m[2]) / w,
+            y: (m[3] * p.x + m[4] * p.y + m[5]) / w,
+        }
+    }
+
+    // The inverse: the transposed cofactors over the determinant, which is expanded along the first
+    // row; refusal 11 where its absolute value is below 1e-12.
+    pub fn inverse(self) -> Solved
+        ensures { λ r. ⌜ r ≡ mat.inverse self ⌝ }
+    {
+        let m = self.m;
+        let c = cofactors(m);
+        let det = m[0] * c[0] + m[1] * c[3] + m[2] * c[6];
+        if float::abs(det) < 1e-12 {
+            let h = Self::identity();
+            return Solved {
+                verdict: Verdict::Refused(11),
+                h: h,
+            };
+        }
+        let out = quotients(c, det);
+        let h = Self::from_mat(out);
+        Solved {
+            verdict: Verdict::Accepted,
+            h: h,
+        }
+    }
+}
+
+// The cofactors, transposed.
+fn cofactors(m: Mat3) -> Mat3
+    ensures { λ r. ⌜ r ≡ mat.adjugate m ⌝ }
+{
+    [
+        m[4] * m[8] - m[5] * m[7],
+        m[2] * m[7] - m[1] * m[8],
+        m[1] * m[5] - m[2] * m[4],
+        m[5] * m[6] - m[3] * m[8],
+        m[0] * m[8] - m[2] * m[6],
+        m[2] * m[3] - m[0] * m[5],
+        m[3] * m[7] - m[4] * m[6],
+        m[1] * m[6] - m[0] * m[7],
+        m[0] * m[4] - m[1] * m[3],
+    ]
+}
+
+// Every entry over d.
+fn quotients(c: Mat3, d: f64) -> Mat3
+    ensures { λ r. ⌜ r ≡ mat.quotients c d ⌝ }
+{
+    [
+        c[0] / d,
+        c[1] / d,
+        c[2] / d,
+        c[3] / d,
+        c[4] / d,
+        c[5] / d,
+        c[6] / d,
+        c[7] / d,
+        c[8] / d,
+    ]
+}
+
+// The square of the distance between two points.
+fn squared_distance(p: Point, q: Point) -> f64
+    ensures { λ r. ⌜ r ≡ mat.apart p q ⌝ }
+{
+    let dx = p.x - q.x;
+    let dy = p.y - q.y;
+    dx * dx + dy * dy
+}
+
+// The root of the mean squared distance of four pairs of points.
+pub fn rms_error(a: Quad, b: Quad) -> f64
+    ensures { λ r. ⌜ r ≡ mat.rmsError a b ⌝ }
+{
+    let tl = squared_distance(a.tl, b.tl);
+    let tr = squared_distance(a.tr, b.tr);
+    let br = squared_distance(a.br, b.br);
+    let bl = squared_distance(a.bl, b.bl);
+    float::sqrt((0.0 + tl + tr + br + bl) / 4.0)
+}

@@ -1,0 +1,122 @@
+use Rattle.frame.specs.Image.{Image, px}
+use Rattle.frame.specs.declared.Rgb.{Rgb}
+use Rattle.frame.specs.declared.Point.{Point}
+use Rattle.sampling.specs.declared.Span.{Span}
+use Rattle.sampling.specs.Reading.{bilinear, colourAt, blended, spanOf}
+use Rattle.sampling.proofs.Whole.{first-in, next-in}
+use native.Mathlib.Omega.{arith}
+use Prim.Native.Nat.{ℕ, suc, _≤_, _<_, _+_, _*_, _-_}
+use mathlib.Core.Path.{_≡_, refl, sym, ap, _∙_}
+use lib.ListN.{length, getD, set, length-set}
+use borrow.Author.Needs.{needs}
+use Rattle.sampling.proofs.internal.reading.Statement.{statement}
+use Rattle.sampling.proofs.internal.reading.Tie as tie
+use Rattle.sampling.proofs.internal.reading.Reads as reads
+use Rattle.sampling.proofs.internal.reading.Lts as lts
+use Rattle.sampling.proofs.internal.blend.Reads as blend-reads
+use Rattle.sampling.proofs.internal.span.Reads as span-reads
+
+module _ (c : tie.After-span) where
+  across-first : c .span .result .first < c .before .before .args .w
+  across-first = omega (arith, ap (λ s. s .first) (c .span .ensures), first-in (c .before .before .args .w) (c .before .before .args .p .x) (omega arith) (omega arith))
+
+  across-next : c .span .result .next < c .before .before .args .w
+  across-next = omega (arith, ap (λ s. s .next) (c .span .ensures), next-in (c .before .before .args .w) (c .before .before .args .p .x) (omega arith) (omega arith))
+
+module _ (c : tie.After-span2) where
+  down-first : c .span2 .result .first < c .before .before .before .args .h
+  down-first = omega (arith, ap (λ s. s .first) (c .span2 .ensures), first-in (c .before .before .before .args .h) (c .before .before .before .args .p .y) (omega arith) (omega arith))
+
+  down-next : c .span2 .result .next < c .before .before .before .args .h
+  down-next = omega (arith, ap (λ s. s .next) (c .span2 .ensures), next-in (c .before .before .before .args .h) (c .before .before .before .args .p .y) (omega arith) (omega arith))
+
+colour-is : (img : Image) (s t : Span) (a b c d : Rgb) (r g bl : ℕ)
+    → a ≡ px img (s .first) (t .first)
+    → b ≡ px img (s .next) (t .first)
+    → c ≡ px img (s .first) (t .next)
+    → d ≡ px img (s .next) (t .next)
+    → r ≡ blended (s .part) (t .part) (a .r) (b .r) (c .r) (d .r)
+    → g ≡ blended (s .part) (t .part) (a .g) (b .g) (c .g) (d .g)
+    → bl ≡ blended (s .part) (t .part) (a .b) (b .b) (c .b) (d .b)
+    → _≡_ {A = Rgb} (record { r = r; g = g; b = bl }) (colourAt img s t)
+unfolding colourAt
+colour-is img s t a b c d r g bl e1 e2 e3 e4 e5 e6 e7 = cc
+
+placed : (img : Image) (p : Point) (s t : Span) → s ≡ spanOf (img .w) (p .x) → t ≡ spanOf (img .h) (p .y) → colourAt img s t ≡ bilinear img p
+unfolding bilinear
+placed img p s t e f = cc
+
+-- src/internal.rt:70:9
+span-requires : tie.Need-span-requires
+span-requires c κs = search needs
+
+-- src/internal.rt:71:9
+span-requires-2 : tie.Need-span-requires-2
+span-requires-2 c κs = search needs
+
+-- src/internal.rt:72:9
+px-requires : tie.Need-px-requires
+px-requires c κs =
+    let k = c in
+    (across-first (k .before), down-first k, omega arith, omega arith, k .before .before .before .pre .bytes-held)
+
+-- src/internal.rt:73:9
+px-requires-2 : tie.Need-px-requires-2
+px-requires-2 c κs =
+    let k = c .before in
+    (across-next (k .before), down-first k, omega arith, omega arith, k .before .before .before .pre .bytes-held)
+
+-- src/internal.rt:74:9
+px-requires-3 : tie.Need-px-requires-3
+px-requires-3 c κs =
+    let k = c .before .before in
+    (across-first (k .before), down-next k, omega arith, omega arith, k .before .before .before .pre .bytes-held)
+
+-- src/internal.rt:75:9
+px-requires-4 : tie.Need-px-requires-4
+px-requires-4 c κs =
+    let k = c .before .before .before in
+    (across-next (k .before), down-next k, omega arith, omega arith, k .before .before .before .pre .bytes-held)
+
+-- src/internal.rt:79:12
+blend-requires : tie.Need-blend-requires
+blend-requires c κs = search needs
+
+-- src/internal.rt:80:12
+blend-requires-2 : tie.Need-blend-requires-2
+blend-requires-2 c κs = search needs
+
+-- src/internal.rt:81:12
+blend-requires-3 : tie.Need-blend-requires-3
+blend-requires-3 c κs = search needs
+
+-- src/internal.rt:66:1
+returns : tie.Need-returns
+returns c =
+    let k = c .before .before .before .before .before .before .before in
+    let s = k .before .span in
+    let t = k .span2 in
+    colour-is _ (s .result) (t .result) _ _ _ _ _ _ _
+    (c .before .before .before .before .before .before .px .ensures)
+    (c .before .before .before .before .before .px2 .ensures)
+    (c .before .before .before .before .px3 .ensures)
+    (c .before .before .before .px4 .ensures)
+    (c .before .before .blend .ensures)
+    (c .before .blend2 .ensures)
+    (c .blend3 .ensures)
+    ∙ placed _ (c .before .before .before .before .before .before .before .before .before .before .args .p) _ _ (s .ensures) (t .ensures)
+
+pub reading-spec : {M : Type 1} → statement M
+reading-spec =
+    tie.close
+    (tie.spec
+    span-requires
+    span-requires-2
+    px-requires
+    px-requires-2
+    px-requires-3
+    px-requires-4
+    blend-requires
+    blend-requires-2
+    blend-requires-3
+    returns)

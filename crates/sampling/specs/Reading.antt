@@ -1,0 +1,50 @@
+-- `bilinear`, which truncates. Where a reading is taken and its colour are separate definitions. Assumes nothing.
+use Prim.Native.Nat.{ℕ, _+_, _-_, _*_, _/_, min}
+use mathlib.Core.Bool.{true, false}
+use lib.Ieee.{Float, nan, inf, fin, binary64, up, down, round}
+use Rattle.float.specs.Floats.{_⊕_, _⊖_, _⊗_, f64, d64, asU8, asUsize, clampOf}
+use Rattle.frame.specs.Image.{Image, px}
+use Rattle.frame.specs.declared.Point.{Point}
+use Rattle.frame.specs.declared.Rgb.{Rgb}
+use Rattle.sampling.specs.declared.Span.{Span}
+
+-- ---- where: along a side, `part` of the way from the pixel `first` to the pixel `next`
+
+-- a coordinate in a side of n pixels, from the first pixel's centre, held to the last one's; a NaN stays
+abbrev pub held : ℕ → Float → Float
+held n t = clampOf (f64 0) (f64 n ⊖ f64 1) (t ⊖ d64 5 10)
+
+-- `floor`, exact: the whole number at x or next below it
+unfoldable pub floorOf : Float → Float
+floorOf nan = nan
+floorOf (inf s) = inf s
+floorOf (fin false m e) = round binary64 false (m * up e / down e) 1
+floorOf (fin true m e) = round binary64 true ((m * up e + (down e - 1)) / down e) 1
+
+unfoldable pub spanOf : ℕ → Float → Span
+spanOf n t =
+    let c = held n t in
+    let first = asUsize (floorOf c) in
+    record { first = first; next = min (first + 1) (n - 1); part = c ⊖ f64 first }
+
+-- ---- the colour there
+
+-- four bytes blended by the fractions tx and ty: rows first, held to 0..255, truncated
+unfoldable pub blended : Float → Float → ℕ → ℕ → ℕ → ℕ → ℕ
+blended tx ty a b c d =
+    let top = f64 a ⊗ (f64 1 ⊖ tx) ⊕ f64 b ⊗ tx in
+    let bot = f64 c ⊗ (f64 1 ⊖ tx) ⊕ f64 d ⊗ tx in
+    asU8 (clampOf (f64 0) (f64 255) (top ⊗ (f64 1 ⊖ ty) ⊕ bot ⊗ ty))
+
+unfoldable pub colourAt : Image → Span → Span → Rgb
+colourAt img across down =
+    let a = px img (across .first) (down .first) in
+    let b = px img (across .next) (down .first) in
+    let c = px img (across .first) (down .next) in
+    let d = px img (across .next) (down .next) in
+    let blend = blended (across .part) (down .part) in
+    record { r = blend (a .r) (b .r) (c .r) (d .r); g = blend (a .g) (b .g) (c .g) (d .g); b = blend (a .b) (b .b) (c .b) (d .b) }
+
+-- `bilinear`: the colour at the point p
+unfoldable pub bilinear : Image → Point → Rgb
+bilinear img p = colourAt img (spanOf (img .w) (p .x)) (spanOf (img .h) (p .y))

@@ -1,0 +1,80 @@
+// What the layers above call without the doors' tests.
+use crate::Span;
+use frame::Point;
+use frame::Rgb;
+ghost use mathlib.Core.Path.{_≡_};
+ghost use Prim.Native.Nat.{_+_, _*_, _-_, _^_, _<_, _≤_};
+ghost use lib.ListN.{length};
+ghost use Rattle.base.specs.Loops.{filled};
+ghost use Rattle.float.specs.Floats.{f64};
+ghost use Rattle.frame.specs.Image.{image};
+ghost use Rattle.frame.specs.Limits.{CaptureHeld};
+ghost use Rattle.sampling.specs.Luma.{lumaAt};
+ghost use Rattle.sampling.specs.Reading.{spanOf, blended, bilinear};
+
+// The luma of each pixel.
+pub fn luma_plane(capture: &[u8], w: usize, h: usize, luma: &mut [f32])
+    requires { ⌜ CaptureHeld (image w h (now capture)) × (w * h ≤ length (now luma)) ⌝ }
+    ensures { λ _. ⌜ now (luma .exit) ≡ filled (lumaAt (image w h (now (capture .entry)))) (w * h) (now (luma .entry)) ⌝ }
+{
+    for i in 0..w * h {
+        let at = 3 * i;
+        luma[i] = crate::luma(capture[at], capture[at + 1], capture[at + 2]);
+    }
+}
+
+pub fn min(x: usize, y: usize) -> usize
+    ensures { λ r. ⌜ r ≡ Prim.Native.Nat.min x y ⌝ }
+{
+    if x < y { x } else { y }
+}
+
+// A count below 2^53 as a float, by one instruction.
+pub fn to_f64(n: usize) -> f64
+    requires { ⌜ n ≤ 2 ^ 53 ⌝ }
+    ensures { λ r. ⌜ r ≡ f64 n ⌝ }
+{
+    (n as i64) as f64
+}
+
+// Where the coordinate t falls along a side of n pixels.
+fn span(n: usize, t: f64) -> Span
+    requires { ⌜ (1 ≤ n) × (n ≤ 4096) ⌝ }
+    ensures { λ r. ⌜ r ≡ spanOf n t ⌝ }
+{
+    let c = float::clamp(t - 0.5, 0.0, to_f64(n) - 1.0);
+    let first = float::to_usize(c);
+    Span {
+        first: first,
+        next: min(first + 1, n - 1),
+        part: c - to_f64(first),
+    }
+}
+
+fn blend(tx: f64, ty: f64, a: u8, b: u8, c: u8, d: u8) -> u8
+    ensures { λ r. ⌜ r ≡ blended tx ty a b c d ⌝ }
+{
+    let top = (a as f64) * (1.0 - tx) + (b as f64) * tx;
+    let bot = (c as f64) * (1.0 - tx) + (d as f64) * tx;
+    float::to_u8(float::clamp(top * (1.0 - ty) + bot * ty, 0.0, 255.0))
+}
+
+// The colour at p, by weights of the four pixels around it, truncated.
+pub fn reading(capture: &[u8], w: usize, h: usize, p: Point) -> Rgb
+    requires { ⌜ CaptureHeld (image w h (now capture)) ⌝ }
+    ensures { λ r. ⌜ r ≡ bilinear (image w h (now (capture .entry))) p ⌝ }
+{
+    let across = span(w, p.x);
+    let down = span(h, p.y);
+    let a = frame::internal::px(capture, w, h, across.first, down.first);
+    let b = frame::internal::px(capture, w, h, across.next, down.first);
+    let c = frame::internal::px(capture, w, h, across.first, down.next);
+    let d = frame::internal::px(capture, w, h, across.next, down.next);
+    let tx = across.part;
+    let ty = down.part;
+    Rgb {
+        r: blend(tx, ty, a.r, b.r, c.r, d.r),
+        g: blend(tx, ty, a.g, b.g, c.g, d.g),
+        b: blend(tx, ty, a.b, b.b, c.b, d.b),
+    }
+}
