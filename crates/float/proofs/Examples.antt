@@ -2,7 +2,7 @@
 use mathlib.Core.Path.{_≡_, refl}
 use mathlib.Core.Bool.{false}
 use lib.IntN.{pos, negsuc}
-use lib.Ieee.{Float, fin, binary64, neg, ofBits, ofInt}
+use lib.Ieee.{fin, binary64, neg, ofBits, ofInt}
 use Rattle.float.specs.Floats.{d64, f64, roundOf}
 use Rattle.float.specs.Root.{sqrtOf}
 

@@ -1,3 +1,4 @@
--- Lemmas of `float::whole`: saturation, and the exponent of a bounded float.
+-- Lemmas of `float::whole`: saturation, floor, and the exponent of a bounded float.
 pub mod Exponent
+pub mod Floor
 pub mod Saturate

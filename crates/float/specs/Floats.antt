@@ -62,6 +62,7 @@ asU8 x = toUnsigned 8 x
 abbrev pub asUsize : Float → ℕ
 asUsize x = toUnsigned 64 x
 
+-- x without its sign
 unfoldable pub absOf : Float → Float
 absOf nan = nan
 absOf (inf s) = inf false
@@ -73,11 +74,11 @@ signumOf nan = nan
 signumOf (inf s) = fin s 1 (pos 0)
 signumOf (fin s m e) = fin s 1 (pos 0)
 
--- Rust's max: the larger, and the other one where one is a NaN
+-- Rust's max: the larger, and the other one where one is a NaN. Of two zeros, for which Rust leaves it open, the first
 unfoldable pub maxOf : Float → Float → Float
 maxOf x y = cond (isNan x) y (cond (lt x y) y x)
 
--- Rust's clamp: a NaN stays
+-- Rust's clamp: a NaN stays. Where lo is above hi, or one of them a NaN, Rust panics; here the tests are made in this order
 unfoldable pub clampOf : Float → Float → Float → Float
 clampOf lo hi x = cond (lt x lo) lo (cond (lt hi x) hi x)
 

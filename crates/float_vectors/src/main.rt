@@ -29,6 +29,10 @@ fn compare_all(b: &[u8]) {
         at = run.at;
         helper += 1;
     }
+    // a word past the end reads as 0, so the vectors must fill the input exactly
+    if at != b.len() / 8 {
+        io::write_all(1, b"the input has another length\n");
+    }
 }
 
 // How many vectors agree, and the word where the next one starts.

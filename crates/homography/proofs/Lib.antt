@@ -2,3 +2,4 @@
 pub mod Steps
 pub mod Rows
 pub mod Ends
+pub mod Transform

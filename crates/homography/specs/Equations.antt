@@ -1,8 +1,8 @@
 -- The direct linear transform with last entry 1 (Hartley and Zisserman), and `solve8`. A matrix of eight rows of nine is a list of 72: entry (r, j) stands
 -- at r * 9 + j. Assumes nothing.
-use Prim.Native.Nat.{ℕ, _+_, _*_}
 use mathlib.Core.Bool.{Bool, true, false, not, _&&_, cond}
 use mathlib.Core.List.{List, [], _∷_, _++_}
+use Prim.Native.Nat.{ℕ, _+_, _*_}
 use lib.Dec.{eqb}
 use lib.ListN.{getD, set, replicate}
 use lib.Ieee.{Float, nan, neg, lt, eq}
@@ -10,9 +10,9 @@ use Rattle.base.specs.Loops.{turns, between, table}
 use Rattle.float.specs.Floats.{_⊖_, _⊗_, _⊘_, f64, tiny, absOf}
 use Rattle.frame.specs.declared.Point.{Point}
 use Rattle.frame.specs.declared.Quad.{Quad}
+use Rattle.frame.specs.declared.Verdict.the-variants.{Accepted, Refused}
 use Rattle.homography.specs.declared.Homography.{Homography}
 use Rattle.homography.specs.declared.Solved.{Solved}
-use Rattle.frame.specs.declared.Verdict.the-variants.{Accepted, Refused}
 
 -- ---- the eight equations: two rows a point, (x, y) going to (u, v), over any numbers
 

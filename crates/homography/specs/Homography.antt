@@ -1,18 +1,18 @@
 -- `apply`, `mat3_mul`, `inverse`, `rms_error`. A matrix is a list of nine by rows. Assumes nothing.
-use Prim.Native.Nat.{ℕ, _+_, _*_}
 use mathlib.Core.Bool.{Bool, cond}
 use mathlib.Core.List.{List, [], _∷_}
+use Prim.Native.Nat.{ℕ, _+_, _*_}
 use lib.ListN.{getD}
 use lib.Ieee.{Float, nan, lt}
 use Rattle.base.specs.Loops.{table, byRow}
 use Rattle.float.specs.Floats.{_⊕_, _⊖_, _⊗_, _⊘_, f64, tiny, absOf, squared}
 use Rattle.float.specs.Root.{sqrtOf}
-use Rattle.homography.specs.Equations.{identity}
 use Rattle.frame.specs.declared.Point.{Point}
 use Rattle.frame.specs.declared.Quad.{Quad}
+use Rattle.frame.specs.declared.Verdict.the-variants.{Accepted, Refused}
+use Rattle.homography.specs.Equations.{identity}
 use Rattle.homography.specs.declared.Homography.{Homography}
 use Rattle.homography.specs.declared.Solved.{Solved}
-use Rattle.frame.specs.declared.Verdict.the-variants.{Accepted, Refused}
 
 -- entry in row i and column j
 abbrev pub at : List Float → ℕ → ℕ → Float

@@ -1,3 +1,4 @@
 -- Definitions that the contracts of this crate cite.
 pub mod Equations
 pub mod Homography
+pub mod Transform

@@ -1,3 +1,4 @@
 -- Laws of the definitions.
 pub mod Sides
 pub mod Steps
+pub mod Examples

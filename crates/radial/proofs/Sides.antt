@@ -3,7 +3,7 @@ use mathlib.Core.Path.{_≡_, refl, sym, ap, _∙_}
 use mathlib.Core.Bool.{true, false}
 use Prim.Native.Nat.{ℕ, zero, suc}
 use lib.Ieee.{Float}
-use Rattle.frame.specs.Refusals.{sidesWrong, sideTests, lowestOf}
+use Rattle.frame.specs.Refusals.{sidesWrong, sideTests}
 use Rattle.frame.proofs.Lowest.{lowest-first, lowest-next, lowest-none}
 use Rattle.radial.specs.declared.Radial.{Radial}
 use Rattle.radial.specs.declared.Lens.the-variants.{Is, Refused}

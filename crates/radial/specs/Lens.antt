@@ -1,7 +1,8 @@
 -- Radial (document 01, "Homography and lens"). Assumes nothing.
-use Prim.Native.Nat.{ℕ, zero, suc}
+use mathlib.Core.Path.{_≡_, refl}
 use mathlib.Core.Bool.{cond}
-use lib.Ieee.{Float, lt, eq}
+use Prim.Native.Nat.{ℕ, zero, suc}
+use lib.Ieee.{Float, lt, eq, isNan, ofInt, add, mul, div}
 use Rattle.float.specs.Floats.{_⊕_, _⊖_, _⊗_, _⊘_, f64, tiny, absOf, maxOf}
 use Rattle.float.specs.Root.{sqrtOf}
 use Rattle.frame.specs.declared.Point.{Point}
@@ -16,6 +17,11 @@ radial w h k =
     let cx = f64 w ⊘ f64 2 in
     let cy = f64 h ⊘ f64 2 in
     record { k = k; cx = cx; cy = cy; norm = maxOf (sqrtOf (cx ⊗ cx ⊕ cy ⊗ cy)) (f64 1) }
+
+-- M11 capture 60 by 80: norm 50
+pub m11 : (k : Float) → radial 60 80 k .norm ≡ f64 50
+unfolding radial ofInt div mul add sqrtOf maxOf lt isNan
+m11 k = refl
 
 -- ---- `Radial::new`
 

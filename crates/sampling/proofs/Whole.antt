@@ -1,13 +1,13 @@
-use borrow.Author.Tests.{ltb-false}
 -- Coordinates held to a side, and their whole parts. Assumes nothing.
+use borrow.Author.Tests.{ltb-false}
 use mathlib.Core.Path.{_≡_, refl, sym, ap, _∙_, subst}
-use mathlib.Core.Bool.{Bool, true, false, not, cond, true≢false}
-use Prim.Native.Nat.{ℕ, zero, suc, _+_, _-_, _*_, _/_, _^_, _≤_, _<_, min}
-use native.Mathlib.Nat.{le-trans, le-of-eq, mul-one, one-mul, mul-assoc, mul-comm, mul-right-comm, le-of-mul-le-mul-right, div-le-of-le-mul, not-le-of-lt, add-mul}
+use mathlib.Core.Bool.{Bool, true, false, cond, true≢false}
+use Prim.Native.Nat.{ℕ, zero, suc, _+_, _-_, _*_, _/_, _^_, _≤_, _<_}
+use native.Mathlib.Nat.{le-trans, le-of-eq, mul-one, one-mul, mul-comm, mul-right-comm, le-of-mul-le-mul-right, div-le-of-le-mul, not-le-of-lt, add-mul}
 use native.Mathlib.Omega.{arith}
-use lib.Dec.{T, ltb, ltb→lt, nltb→le, lit≤, lit<}
+use lib.Dec.{T, ltb, ltb→lt, lit<}
 use lib.IntN.{pos}
-use lib.Ieee.{low, emax, prec, Float, nan, inf, fin, Format, binary64, up, down, round, sum, add, sub, neg, ofInt, lt, toUnsigned, odd, units}
+use lib.Ieee.{low, emax, prec, Float, nan, inf, fin, Format, binary64, up, down, round, sum, sub, ofInt, lt, toUnsigned, odd, units}
 use lib.Ieee.Exact.{HasValue}
 use lib.Ieee.Back.{round-whole, unsigned-back}
 use lib.Ieee.Fits.{down-pos, round-is}
@@ -15,7 +15,6 @@ use lib.Ieee.Scale.{round-same}
 use Rattle.base.proofs.Floats.{held64}
 use Rattle.float.specs.Floats.{_⊖_, f64, d64, asUsize, clampOf}
 use Rattle.sampling.specs.Reading.{held, floorOf, spanOf}
-use Rattle.sampling.specs.declared.Span.{Span}
 
 -- ---- n - 1 is exact
 

@@ -1,9 +1,9 @@
 -- Which patterns are NaNs. Assumes nothing.
-use mathlib.Core.Path.{_≡_, refl, sym, ap, _∙_, subst}
+use mathlib.Core.Path.{_≡_, refl, sym, _∙_, subst}
 use mathlib.Core.Bool.{Bool, true, false, not, true≢false}
 use Prim.Native.Nat.{ℕ, _*_, _%_, _≤_, _<_}
-use lib.Dec.{T, ltb}
-use lib.Ieee.{Float, nan, inf, fin, Format, ones, hid, top, isNan, nanBits, ofBits, ne}
+use lib.Dec.{T}
+use lib.Ieee.{Float, nan, inf, fin, Format, ones, hid, top, isNan, nanBits, ofBits}
 use lib.Ieee.Bits.{nanBits-is, nanBits-above}
 use borrow.Author.Tests.{lt-ltb, le-ltb}
 

@@ -1,22 +1,22 @@
 -- The bound of a root by whole squares: `NearestRoot`. Assumes nothing.
-use mathlib.Core.Path.{_≡_, refl, sym, ap, _∙_, subst}
+use mathlib.Core.Path.{_≡_, sym, ap, _∙_}
 use mathlib.Core.Logic.{_⊎_, inl, inr}
-use mathlib.Core.Bool.{Bool, _&&_}
-use Prim.Native.Nat.{ℕ, zero, suc, _+_, _-_, _*_, _/_, _%_, _^_, _≤_, _<_}
-use native.Mathlib.Nat.{le-trans, le-of-eq, le-of-lt, lt-of-lt-of-le, lt-of-le-of-lt, lt-of-not-le, lt-irrefl, mul-one, one-mul, zero-mul, zero-div, div-one, mul-right-comm, mul-mul-mul-comm, mul-le-mul, mul-le-mul-right, mul-lt-mul-of-pos-right, lt-of-mul-lt-mul-right, mul-pos, mul-div-cancel, add-mul, eq-or-lt-of-le}
+use mathlib.Core.Bool.{Bool}
+use Prim.Native.Nat.{ℕ, zero, suc, _+_, _-_, _*_, _/_, _^_, _≤_, _<_}
+use native.Mathlib.Nat.{le-trans, le-of-eq, le-of-lt, lt-of-lt-of-le, lt-of-le-of-lt, lt-of-not-le, lt-irrefl, mul-one, one-mul, zero-mul, zero-div, div-one, mul-right-comm, mul-mul-mul-comm, mul-le-mul-right, mul-lt-mul-of-pos-right, lt-of-mul-lt-mul-right, mul-pos, mul-div-cancel, add-mul, eq-or-lt-of-le}
 use native.Mathlib.Omega.{arith}
-use lib.IntN.{ℤ, pos, negsuc}
-use lib.Dec.{T, ltb, leb, eqb, ltb→lt, leb→le}
+use lib.IntN.{pos, negsuc}
+use lib.Dec.{T}
 use lib.Pow.{pow-add, pow-pos, pow-lt, pow-mono, shl-lt, shl-shr}
 use lib.Ieee.{Float, nan, inf, fin, binary64, up, down, fits}
 use lib.Ieee.Digits.{back}
-use lib.Ieee.Fits.{down-pos, and-l, and-r}
+use lib.Ieee.Fits.{down-pos}
 use lib.Ieee.Scale.{finite}
 use lib.Ieee.Exact.{HasValue}
 use lib.Ieee.Positive.{positive}
 use Rattle.base.proofs.Plane.{le-or-lt}
 use Rattle.float.specs.Root.{inUnits, NearestRoot}
-use Rattle.float.proofs.Patterns.{shift}
+use Rattle.float.proofs.Patterns.{shift, limits}
 use Rattle.float.proofs.root.Squares.{Nearest, sq-even, sq-next, sq-mono}
 
 -- ---- a value in units
@@ -38,29 +38,19 @@ pow-le-back i p h =
     let l : i < suc p = lt-of-not-le (λ (g : suc p ≤ i). lt-irrefl (2 ^ p) (lt-of-lt-of-le (pow-lt g) h)) in
     omega arith
 
-limits : (s : Bool) (m : ℕ) (e : ℤ) → T (fits binary64 (fin s (suc m) e)) → (suc m < 2 ^ 53) × (down e ≤ 2 ^ 1074)
-unfolding fits
-limits s m e F =
-    let a : Bool = eqb (suc m % 2) 1 in
-    let b : Bool = ltb (suc m) (2 ^ 53) in
-    let c : Bool = leb (down e) (2 ^ 1074) in
-    let d : Bool = ltb (suc m * up e) (2 ^ 1024 * down e) in
-    let g : T (a && b && c) = and-l (a && b && c) d F in
-    (ltb→lt (suc m) (2 ^ 53) (and-r a b (and-l (a && b) c g)), leb→le (down e) (2 ^ 1074) (and-r (a && b) c g))
-
 digits : (y : Float) → T (fits binary64 y) → T (finite y) → Digits (inUnits 1074 y)
 unfolding inUnits
 digits nan F N = absurd N
 digits (inf s) F N = absurd N
 digits (fin s zero e) F N = record { t = 0; j = 0; is = ap (λ (z : ℕ). z / down e) (ap (λ (z : ℕ). z * 2 ^ 1074) (zero-mul (up e)) ∙ zero-mul (2 ^ 1074)) ∙ zero-div (down e); few = omega arith }
-digits (fin s (suc m) (pos i)) F N = record { t = suc m; j = i + 1074; is = div-one (suc m * 2 ^ i * 2 ^ 1074) ∙ shift (suc m) i 1074; few = limits s m (pos i) F .0 }
+digits (fin s (suc m) (pos i)) F N = record { t = suc m; j = i + 1074; is = div-one (suc m * 2 ^ i * 2 ^ 1074) ∙ shift (suc m) i 1074; few = limits s m (pos i) F .digits }
 digits (fin s (suc m) (negsuc i)) F N =
-    let l : suc i ≤ 1074 = pow-le-back (suc i) 1074 (limits s m (negsuc i) F .1) in
+    let l : suc i ≤ 1074 = pow-le-back (suc i) 1074 (limits s m (negsuc i) F .scale) in
     record {
       t = suc m;
       j = 1074 - suc i;
       is = ap (λ (z : ℕ). z / 2 ^ suc i) (ap (λ (z : ℕ). suc m * 1 * 2 ^ z) (sym (back 1074 (suc i) l)) ∙ ap (λ (z : ℕ). z * 2 ^ (1074 - suc i + suc i)) (mul-one (suc m)) ∙ sym (shift (suc m) (1074 - suc i) (suc i))) ∙ shl-shr (suc m * 2 ^ (1074 - suc i)) (suc i);
-      few = limits s m (negsuc i) F .0;
+      few = limits s m (negsuc i) F .digits;
     }
 
 -- ---- the f64s beside q * 2 ^ k, for a q of 53 digits: t * 2 ^ j is another

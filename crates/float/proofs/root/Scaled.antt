@@ -1,14 +1,13 @@
 -- The root of d * 2 ^ (g + 50) units of 2 ^ -2148, for digits d with their leading one at 52: its pattern, and that it is `sqrtOf`. Assumes nothing.
 use mathlib.Core.Path.{_≡_, refl, sym, ap, _∙_, subst}
 use mathlib.Core.Logic.{_⊎_, inl, inr}
-use mathlib.Core.Bool.{Bool, true, false, not, cond, true≢false}
+use mathlib.Core.Bool.{Bool, true, false, not}
 use Prim.Native.Nat.{ℕ, zero, suc, _+_, _-_, _*_, _/_, _%_, _^_, _≤_, _<_}
-use native.Mathlib.Nat.{le-trans, le-of-eq, lt-of-lt-of-le, lt-of-le-of-lt, lt-of-not-le, not-le-of-lt, mul-assoc, mul-one, mul-pos, mul-comm, mul-le-mul-right, mul-le-mul, mul-div-cancel, mod-eq-of-lt, zero-add, pow-suc}
+use native.Mathlib.Nat.{le-trans, le-of-eq, lt-of-lt-of-le, lt-of-le-of-lt, lt-of-not-le, not-le-of-lt, mul-assoc, mul-pos, mul-le-mul-right, mul-div-cancel, mod-eq-of-lt, zero-add, pow-suc}
 use native.Mathlib.Omega.{arith}
-use lib.IntN.{ℤ}
-use lib.Dec.{T, ltb, lit≤, lit<, ltb→lt}
-use lib.Pow.{pow-add, pow-pos, pow-mono, pow-lt, shl-lt}
-use lib.Ieee.{Float, nan, inf, fin, binary64, prec, up, down, size, odd, units, fits, isNan, nanBits, ofBits, toBits}
+use lib.Dec.{T, ltb, lit≤, lit<}
+use lib.Pow.{pow-add, pow-pos, pow-lt, shl-lt}
+use lib.Ieee.{Float, nan, inf, fin, binary64, down, size, odd, units, fits, isNan, nanBits, ofBits}
 use lib.Ieee.Fits.{down-pos, odd-fits, cond-fits, inf-fits}
 use lib.Ieee.Bits.{ofBits-toBits, nanBits-is}
 use lib.Ieee.Exact.{HasValue, units-val}

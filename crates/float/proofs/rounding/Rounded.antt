@@ -1,20 +1,19 @@
 -- `roundOf` from an `f64`'s pattern: the digits with a half added, shifted down, where x has a fraction, and x itself where it has none. Assumes nothing.
 use mathlib.Core.Path.{_≡_, refl, sym, ap, _∙_, subst}
-use mathlib.Core.Logic.{_⊎_, inl, inr}
+use mathlib.Core.Logic.{inl, inr}
 use mathlib.Core.Bool.{Bool, true, false, not, cond}
-use Prim.Native.Nat.{ℕ, zero, suc, _+_, _-_, _*_, _/_, _%_, _^_, _≤_, _<_, compare}
-use native.Mathlib.Nat.{le-trans, le-of-eq, le-of-lt, lt-of-lt-of-le, lt-of-le-of-lt, mul-assoc, mul-one, one-mul, mul-comm, mul-right-comm, add-mul, mul-pos, mul-lt-mul-of-pos-right, mul-le-mul-right, mul-div-cancel, div-eq-of-lt, div-lt-iff-lt-mul, mod-eq-of-lt, pow-suc, eq-of-mul-eq-mul-right}
+use Prim.Native.Nat.{ℕ, zero, suc, _+_, _-_, _*_, _/_, _%_, _^_, _≤_, _<_}
+use native.Mathlib.Nat.{le-trans, le-of-eq, le-of-lt, lt-of-lt-of-le, lt-of-le-of-lt, mul-assoc, mul-one, one-mul, mul-comm, mul-right-comm, add-mul, div-eq-of-lt, mod-eq-of-lt, pow-suc, eq-of-mul-eq-mul-right}
 use native.Mathlib.Numerals.{add-one}
 use native.Mathlib.Omega.{arith}
-use lib.IntN.{ℤ, pos}
 use lib.Dec.{T, leb, ltb, lit≤, lit<}
-use lib.Pow.{pow-add, pow-pos, pow-mono, pow-lt, shl-lt, shr-lt}
+use lib.Pow.{pow-pos, pow-mono, pow-lt, shl-lt, shr-lt}
 use lib.Arith.{digits-div}
-use lib.Ieee.{Float, nan, inf, fin, Format, binary64, prec, emax, low, up, down, size, nearest, odd, units, round, neg, ofInt, fits, isNan, toBits, ofBits}
+use lib.Ieee.{Float, nan, inf, fin, Format, binary64, prec, emax, low, up, down, odd, units, round, neg, fits, isNan, toBits}
 use lib.Ieee.Fits.{down-pos, round-is, round-fits}
 use lib.Ieee.Bits.{ofBits-toBits}
 use lib.Ieee.Exact.{HasValue, round-exact}
-use lib.Ieee.Nearest.{closest, div-same}
+use lib.Ieee.Nearest.{div-same}
 use lib.Ieee.Back.{whole-unique}
 use Rattle.float.specs.Floats.{roundOf}
 use Rattle.float.proofs.Patterns.{shift, Value, read}

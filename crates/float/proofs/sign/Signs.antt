@@ -1,17 +1,16 @@
 -- The sign of an `f64` is the top bit of its pattern. Assumes nothing.
 use mathlib.Core.Path.{_≡_, refl, sym, ap, _∙_, subst}
-use mathlib.Core.Logic.{_⊎_, inl, inr}
-use mathlib.Core.Bool.{Bool, true, false, not, cond, true≢false}
-use Prim.Native.Nat.{ℕ, zero, suc, _+_, _*_, _/_, _%_, _^_, _≤_, _<_}
+use mathlib.Core.Logic.{inl, inr}
+use mathlib.Core.Bool.{Bool, true, false, not, cond}
+use Prim.Native.Nat.{ℕ, zero, suc, _+_, _/_, _%_, _^_}
 use native.Mathlib.Nat.{mod-lt}
 use native.Mathlib.Omega.{arith}
-use lib.IntN.{ℤ, pos}
-use lib.Dec.{T, leb, eqb, lt→ltb}
+use lib.IntN.{pos}
+use lib.Dec.{T, leb, eqb}
 use lib.Arith.{lt→nleb}
 use lib.Pow.{pow-pos, mod-mod-pow}
 use lib.Ieee.{Float, nan, inf, fin, binary64, odd, fits, isNan, nanBits, ofFields, ofBits, toBits, ne}
-use lib.Ieee.Compare.{differs-from-itself, nan-differs}
-use lib.Ieee.Bits.{ofBits-toBits, nanBits-is, is-false, is-true}
+use lib.Ieee.Bits.{ofBits-toBits, nanBits-is, is-false}
 use lib.Ieee.Exact.{HasValue}
 use Rattle.float.specs.Floats.{absOf, signumOf}
 use Rattle.float.proofs.Patterns.{Value, read}

@@ -1,22 +1,21 @@
 -- The four ranges of an `f64`'s pattern b, by its magnitude b % 2 ^ 63, and the pattern of the nearest `f32` in each. Assumes nothing.
 use mathlib.Core.Path.{_≡_, refl, sym, ap, _∙_, subst}
-use mathlib.Core.Logic.{_⊎_, inl, inr}
-use mathlib.Core.Bool.{Bool, true, false, not, cond, true≢false}
+use mathlib.Core.Logic.{inl, inr}
+use mathlib.Core.Bool.{Bool, true, false, not, cond}
 use Prim.Native.Nat.{ℕ, zero, suc, _+_, _-_, _*_, _/_, _%_, _^_, _≤_, _<_}
-use native.Mathlib.Nat.{add-zero, mod-lt, mod-eq-of-lt, one-mul, div-le-self, lt-of-lt-of-le}
+use native.Mathlib.Nat.{add-zero, mod-eq-of-lt, one-mul}
 use native.Mathlib.Omega.{arith}
 use lib.Dec.{T, leb, ltb, leb→le, nleb→lt}
 use lib.Pow.{pow-pos, pow-mono, pow-lt, mod-mod-pow}
 use native.Mathlib.Numerals.{add-one}
-use lib.Ieee.{Float, nan, inf, fin, Format, binary32, binary64, prec, emax, low, size, odd, units, round, isNan, fits, nanBits, toBits, ofBits, ne}
+use lib.Ieee.{Float, nan, inf, fin, Format, binary32, binary64, prec, emax, low, odd, units, round, isNan, fits, nanBits, toBits, ofBits}
 use lib.Ieee.Fits.{round-fits, inf-fits, nan-fits, round-is}
 use lib.Ieee.Bits.{ofBits-toBits, toBits-lt, nanBits-is}
 use lib.Ieee.Exact.{HasValue}
-use lib.Ieee.Nearest.{closest}
 use Rattle.float.specs.Floats.{narrowed}
 use Rattle.float.proofs.width.Closest.{closest-up}
 use Rattle.float.proofs.Patterns.{Value, read, inf-pattern}
-use Rattle.float.proofs.width.Narrowing.{narrowed-at, normal, normal-bits, overflows, subnormal, subnormal-bits, nothing-left, closest-low-is, closest-low-le}
+use Rattle.float.proofs.width.Narrowing.{narrowed-at, normal, normal-bits, overflows, subnormal, subnormal-bits, nothing-left, closest-low-is}
 
 -- ---- a value that is no NaN is the value of its pattern, and narrows to one that is no NaN
 odd-real : (d : ℕ) (s : Bool) (q k l : ℕ) → T (not (isNan (odd d s q k l)))

@@ -5,10 +5,10 @@ use Rattle.float_vectors.proofs.compare_all.Statement.{statement}
 use Rattle.float_vectors.proofs.compare_all.Tie as tie
 
 abbrev Inv-loop : tie.InvT-loop
-Inv-loop b at₀ helper₀ t6 at helper = helper ≤ 10
+Inv-loop b at₀ helper₀ t6 t7 at helper = helper ≤ 10
 
 abbrev μ-loop : tie.MeasureT-loop
-μ-loop b at₀ helper₀ t6 at helper = 10 - helper
+μ-loop b at₀ helper₀ t6 t7 at helper = 10 - helper
 
 loop-holds : tie.Need-loop-holds Inv-loop μ-loop
 loop-holds c = search needs
@@ -46,8 +46,17 @@ loop-less c = search needs
 loop-again : tie.Need-loop-again Inv-loop μ-loop
 loop-again c = search needs
 
+slice-aggregate-write-all-2 : tie.Need-slice-aggregate-write-all-2 Inv-loop μ-loop
+slice-aggregate-write-all-2 c = search needs
+
+write-all-requires-2 : tie.Need-write-all-requires-2 Inv-loop μ-loop
+write-all-requires-2 c κs = search needs
+
 returns-2 : tie.Need-returns-2 Inv-loop μ-loop
 returns-2 c = search needs
+
+returns-3 : tie.Need-returns-3 Inv-loop μ-loop
+returns-3 c = search needs
 
 pub compare-all-spec : {M : Type 1} → statement M
 compare-all-spec =
@@ -67,4 +76,7 @@ compare-all-spec =
     add-helper
     loop-less
     loop-again
-    returns-2)
+    slice-aggregate-write-all-2
+    write-all-requires-2
+    returns-2
+    returns-3)

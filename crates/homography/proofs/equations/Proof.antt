@@ -1,34 +1,24 @@
+-- `equations` meets its contract: four points set one after the other. Assumes nothing.
+use mathlib.Core.Path.{ap, _∙_}
+use lib.Ieee.{ofBits, ofInt}
+use borrow.Author.Needs.{needs}
 use Rattle.homography.proofs.Rows.{rows-set}
 use Rattle.homography.specs.Equations.{pointSet}
-use lib.Ieee.{ofBits, ofInt, round}
-use native.Mathlib.Omega.{arith}
-use Prim.Native.Nat.{ℕ, suc, _≤_, _<_, _+_, _*_, _-_}
-use mathlib.Core.Path.{_≡_, refl, sym, ap, _∙_}
-use lib.ListN.{length, getD, set, length-set}
-use borrow.Author.Needs.{needs}
 use Rattle.homography.proofs.equations.Statement.{statement}
 use Rattle.homography.proofs.equations.Tie as tie
-use Rattle.homography.proofs.equations.Reads as reads
-use Rattle.homography.proofs.equations.Lts as lts
-use Rattle.homography.proofs.set_point.Reads as set-point-reads
 
--- src/lib.rt:89:5
 set-point-requires : tie.Need-set-point-requires
 set-point-requires c κs = search needs
 
--- src/lib.rt:90:5
 set-point-requires-2 : tie.Need-set-point-requires-2
 set-point-requires-2 c κs = search needs
 
--- src/lib.rt:91:5
 set-point-requires-3 : tie.Need-set-point-requires-3
 set-point-requires-3 c κs = search needs
 
--- src/lib.rt:92:5
 set-point-requires-4 : tie.Need-set-point-requires-4
 set-point-requires-4 c κs = search needs
 
--- src/lib.rt:85:1
 returns : tie.Need-returns
 unfolding ofBits ofInt
 returns c =

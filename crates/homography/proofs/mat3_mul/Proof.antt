@@ -1,17 +1,15 @@
-use Rattle.homography.proofs.Rows.{product-entry, product-is}
-use lib.Ieee.{ofBits, ofInt, round}
-use Rattle.base.proofs.Plane.{filled-begin, filled-step, filled-end}
-use Rattle.homography.specs.Homography.{mat3Mul, productAt}
-use Rattle.base.specs.Loops.{turns, between, table, filled, fillAt, byRow}
-use borrow.Author.Needs.{needs}
+-- `mat3_mul` meets its contract. The loop's invariant: the first n entries are the product's. Assumes nothing.
+use mathlib.Core.Path.{_≡_, _∙_}
+use Prim.Native.Nat.{_≤_, _-_}
 use native.Mathlib.Omega.{arith}
-use Prim.Native.Nat.{ℕ, suc, _≤_, _<_, _+_, _*_, _-_}
-use mathlib.Core.Path.{_≡_, refl, sym, ap, _∙_}
-use lib.ListN.{length, getD, set, length-set}
+use lib.Ieee.{ofBits, ofInt}
+use borrow.Author.Needs.{needs}
+use Rattle.base.proofs.Plane.{filled-begin, filled-step, filled-end}
+use Rattle.base.specs.Loops.{filled, byRow}
+use Rattle.homography.proofs.Rows.{product-entry, product-is}
+use Rattle.homography.specs.Homography.{productAt}
 use Rattle.homography.proofs.mat3_mul.Statement.{statement}
 use Rattle.homography.proofs.mat3_mul.Tie as tie
-use Rattle.homography.proofs.mat3_mul.Reads as reads
-use Rattle.homography.proofs.mat3_mul.Lts as lts
 
 abbrev Inv-loop : tie.InvT-loop
 Inv-loop a b out₀ n₀ out n = (out ≡ filled (byRow 3 (productAt a b)) n out₀) × (n ≤ 9)
@@ -19,102 +17,78 @@ Inv-loop a b out₀ n₀ out n = (out ≡ filled (byRow 3 (productAt a b)) n out
 abbrev μ-loop : tie.MeasureT-loop
 μ-loop a b out₀ n₀ out n = 9 - n
 
--- src/lib.rt:41:5
 loop-holds : tie.Need-loop-holds Inv-loop μ-loop
 loop-holds c = (filled-begin _ _, search needs)
 
--- src/lib.rt:42:17
 mul-i : tie.Need-mul-i Inv-loop μ-loop
 mul-i c = search needs
 
--- src/lib.rt:44:18
 mul-out : tie.Need-mul-out Inv-loop μ-loop
 mul-out c = search needs
 
--- src/lib.rt:44:18
 element-copy-out-out : tie.Need-element-copy-out-out Inv-loop μ-loop
 element-copy-out-out c = search needs
 
--- src/lib.rt:44:25
 mul-out-2 : tie.Need-mul-out-2 Inv-loop μ-loop
 mul-out-2 c = search needs
 
--- src/lib.rt:44:25
 element-copy-out-out-2 : tie.Need-element-copy-out-out-2 Inv-loop μ-loop
 element-copy-out-out-2 c = search needs
 
--- src/lib.rt:44:34
 add-out : tie.Need-add-out Inv-loop μ-loop
 add-out c = search needs
 
--- src/lib.rt:44:32
 mul-out-3 : tie.Need-mul-out-3 Inv-loop μ-loop
 mul-out-3 c = search needs
 
--- src/lib.rt:44:32
 element-copy-out-out-3 : tie.Need-element-copy-out-out-3 Inv-loop μ-loop
 element-copy-out-out-3 c = search needs
 
--- src/lib.rt:44:45
 add-out-2 : tie.Need-add-out-2 Inv-loop μ-loop
 add-out-2 c = search needs
 
--- src/lib.rt:44:43
 mul-out-4 : tie.Need-mul-out-4 Inv-loop μ-loop
 mul-out-4 c = search needs
 
--- src/lib.rt:44:43
 element-copy-out-out-4 : tie.Need-element-copy-out-out-4 Inv-loop μ-loop
 element-copy-out-out-4 c = search needs
 
--- src/lib.rt:44:56
 add-out-3 : tie.Need-add-out-3 Inv-loop μ-loop
 add-out-3 c = search needs
 
--- src/lib.rt:44:54
 mul-out-5 : tie.Need-mul-out-5 Inv-loop μ-loop
 mul-out-5 c = search needs
 
--- src/lib.rt:44:54
 element-copy-out-out-5 : tie.Need-element-copy-out-out-5 Inv-loop μ-loop
 element-copy-out-out-5 c = search needs
 
--- src/lib.rt:44:67
 add-out-4 : tie.Need-add-out-4 Inv-loop μ-loop
 add-out-4 c = search needs
 
--- src/lib.rt:44:65
 mul-out-6 : tie.Need-mul-out-6 Inv-loop μ-loop
 mul-out-6 c = search needs
 
--- src/lib.rt:44:65
 element-copy-out-out-6 : tie.Need-element-copy-out-out-6 Inv-loop μ-loop
 element-copy-out-out-6 c = search needs
 
--- src/lib.rt:44:9
 mul-out-7 : tie.Need-mul-out-7 Inv-loop μ-loop
 mul-out-7 c = search needs
 
--- src/lib.rt:44:9
 array-write-out : tie.Need-array-write-out Inv-loop μ-loop
 array-write-out c = search needs
 
--- src/lib.rt:41:9
 add-n : tie.Need-add-n Inv-loop μ-loop
 add-n c = search needs
 
--- src/lib.rt:41:5
 loop-less : tie.Need-loop-less Inv-loop μ-loop
 loop-less c = search needs
 
--- src/lib.rt:41:5
 loop-again : tie.Need-loop-again Inv-loop μ-loop
 loop-again c =
     let l = c .before .before .before .before .before .before .before .loop in
     let s = c .before .before .before .before .before .before .before .before .args in
     (filled-step _ _ (l .n) _ (l .inv .0) (product-entry (s .a .now) (s .b .now) (l .n)), omega arith)
 
--- src/lib.rt:37:1
 returns : tie.Need-returns Inv-loop μ-loop
 unfolding ofBits ofInt
 returns c = filled-end _ _ _ _ (c .before .loop .inv .0) (omega arith) ∙ product-is _ _

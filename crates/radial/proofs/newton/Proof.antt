@@ -1,17 +1,14 @@
+-- `newton` meets its contract. The loop's invariant: the steps that are left lead from u to the answer. Assumes nothing.
+use mathlib.Core.Path.{_≡_, refl, sym, ap, _∙_}
+use Prim.Native.Nat.{ℕ, suc, _≤_, _+_, _-_}
+use native.Mathlib.Omega.{arith}
+use lib.Ieee.{ofBits, ofInt}
+use borrow.Author.Needs.{needs}
 use Rattle.float.specs.Floats.{d64}
 use Rattle.radial.specs.Lens.{newton}
-use lib.Ieee.{ofBits, ofInt, round}
 use Rattle.radial.proofs.Steps.{newton-done, newton-stop, newton-go}
-use borrow.Author.Needs.{needs}
-use native.Mathlib.Omega.{arith}
-use Prim.Native.Nat.{ℕ, suc, _≤_, _<_, _+_, _*_, _-_}
-use mathlib.Core.Path.{_≡_, refl, sym, ap, _∙_}
-use lib.ListN.{length, getD, set, length-set}
 use Rattle.radial.proofs.newton.Statement.{statement}
 use Rattle.radial.proofs.newton.Tie as tie
-use Rattle.radial.proofs.newton.Reads as reads
-use Rattle.radial.proofs.newton.Lts as lts
-use Rattle.float.proofs.abs.Reads as abs-reads
 
 abbrev Inv-loop : tie.InvT-loop
 Inv-loop k rd u₀ counter₀ u counter = (newton (6 - counter) k rd u ≡ newton 6 k rd rd) × (counter ≤ 6)
@@ -19,15 +16,12 @@ Inv-loop k rd u₀ counter₀ u counter = (newton (6 - counter) k rd u ≡ newto
 abbrev μ-loop : tie.MeasureT-loop
 μ-loop k rd u₀ counter₀ u counter = 6 - counter
 
--- src/lib.rt:38:5
 loop-holds : tie.Need-loop-holds Inv-loop μ-loop
 loop-holds c = (refl, search needs)
 
--- src/lib.rt:41:12
 abs-requires : tie.Need-abs-requires Inv-loop μ-loop
 abs-requires c κs = search needs
 
--- src/lib.rt:42:13
 returns : tie.Need-returns Inv-loop μ-loop
 unfolding ofBits ofInt d64
 returns c =
@@ -38,15 +32,12 @@ returns c =
     ∙ ap (λ (i : ℕ). newton i (a .k) (a .rd) (l .u)) (sym n)
     ∙ l .inv .0
 
--- src/lib.rt:38:9
 add-counter : tie.Need-add-counter Inv-loop μ-loop
 add-counter c = search needs
 
--- src/lib.rt:38:5
 loop-less : tie.Need-loop-less Inv-loop μ-loop
 loop-less c = search needs
 
--- src/lib.rt:38:5
 loop-again : tie.Need-loop-again Inv-loop μ-loop
 unfolding ofBits ofInt d64
 loop-again c =
@@ -59,7 +50,6 @@ loop-again c =
       omega arith,
     )
 
--- src/lib.rt:34:1
 returns-2 : tie.Need-returns-2 Inv-loop μ-loop
 returns-2 c =
     let l = c .before .loop in

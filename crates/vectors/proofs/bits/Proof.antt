@@ -1,5 +1,5 @@
 -- `vectors::bits` meets its contract. Assumes nothing.
-use mathlib.Core.Path.{_≡_, refl, sym, ap}
+use mathlib.Core.Path.{refl, sym, ap}
 use lib.Ieee.{binary64, toBits}
 use Rattle.base.proofs.Floats.{is-nan, not-nan}
 use Rattle.vectors.proofs.bits.Statement.{statement}

@@ -1,5 +1,5 @@
 -- `vectors::bits32` meets its contract. Assumes nothing.
-use mathlib.Core.Path.{_≡_, refl, sym, ap}
+use mathlib.Core.Path.{refl, sym, ap}
 use lib.Ieee.{binary32, toBits}
 use Rattle.base.proofs.Floats.{is-nan, not-nan}
 use Rattle.vectors.proofs.bits32.Statement.{statement}

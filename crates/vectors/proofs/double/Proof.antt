@@ -1,7 +1,6 @@
 -- `vectors::double` meets its contract. Assumes nothing.
 use mathlib.Core.Path.{_≡_, refl, _∙_}
-use lib.Ieee.{Float, nan, binary64, div, ofBits}
-use borrow.Author.Needs.{needs}
+use lib.Ieee.{nan, binary64, div, ofBits}
 use Rattle.vectors.proofs.Nans.{nan-pattern, other-pattern}
 use Rattle.vectors.proofs.double.Statement.{statement}
 use Rattle.vectors.proofs.double.Tie as tie

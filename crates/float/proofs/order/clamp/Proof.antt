@@ -1,3 +1,4 @@
+-- `float::clamp` meets its contract. Assumes nothing.
 use Rattle.float.specs.Floats.{clampOf}
 -- `float::clamp` meets its contract. Assumes nothing.
 use Rattle.float.proofs.order.clamp.Statement.{statement}

@@ -1,3 +1,4 @@
+-- `float::max` meets its contract. Assumes nothing.
 use Rattle.float.specs.Floats.{maxOf}
 -- `float::max` meets its contract. Assumes nothing.
 use Rattle.float.proofs.sign.Signs.{isNan-true, isNan-false}

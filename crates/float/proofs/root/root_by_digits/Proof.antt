@@ -1,18 +1,17 @@
+-- `float::root_by_digits` meets its contract: the invariant is `State`. Assumes nothing.
 use borrow.Author.Needs.{needs}
-use mathlib.Core.Path.{_≡_, refl, sym, ap, _∙_, subst}
+use mathlib.Core.Path.{_≡_, sym, ap, _∙_}
 use mathlib.Core.Logic.{⊎-elim}
 use mathlib.Core.Bool.{Bool, true, false, cond}
 use lib.Dec.{ltb}
 use borrow.Author.Tests.{lt-ltb, le-ltb}
-use Prim.Native.Nat.{ℕ, _+_, _-_, _*_, _/_, _%_, _^_, _≤_, _<_}
+use Prim.Native.Nat.{ℕ, _+_, _-_, _*_, _^_, _<_}
 use native.Mathlib.Omega.{arith}
 use Rattle.float.specs.Root.{nearestRoot}
 use Rattle.float.proofs.root.Squares.{nearest-is}
 use Rattle.float.proofs.root.Digits.{State, start, step-one, step-zero, finish, same}
 use Rattle.float.proofs.root.root_by_digits.Statement.{statement}
 use Rattle.float.proofs.root.root_by_digits.Tie as tie
-use Rattle.float.proofs.root.root_by_digits.Reads as reads
-use Rattle.float.proofs.root.root_by_digits.Lts as lts
 
 abbrev Inv-loop : tie.InvT-loop
 Inv-loop a rest₀ r₀ e₀ i₀ rest r e i = State a rest r e i

@@ -1,11 +1,10 @@
 -- `float::scaled_root` meets its contract. Assumes nothing.
 use borrow.Author.Needs.{needs}
-use mathlib.Core.Path.{_≡_, refl, sym, ap, _∙_, subst}
-use mathlib.Core.Bool.{false, not}
-use Prim.Native.Nat.{ℕ, _+_, _-_, _*_, _/_, _%_, _^_, _≤_, _<_}
-use native.Mathlib.Omega.{arith}
+use mathlib.Core.Path.{_≡_, sym, ap, _∙_, subst}
+use mathlib.Core.Bool.{not}
+use Prim.Native.Nat.{ℕ, _+_, _-_, _*_, _/_, _%_, _^_, _<_}
 use lib.Dec.{T}
-use lib.Ieee.{Float, binary64, nanBits, ofBits}
+use lib.Ieee.{binary64, nanBits, ofBits}
 use Rattle.float.specs.Root.{nearestRoot}
 use Rattle.float.proofs.root.Scaled.{shl-is, shl-lt54, is, no-nan, pattern-lt}
 use Rattle.float.proofs.root.scaled_root.Statement.{statement}

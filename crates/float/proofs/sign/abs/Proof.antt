@@ -1,11 +1,8 @@
 -- `float::abs` meets its contract. Assumes nothing.
-use mathlib.Core.Path.{_≡_, refl, sym, ap, _∙_, subst}
-use mathlib.Core.Bool.{Bool, not}
-use Prim.Native.Nat.{_^_}
+use mathlib.Core.Path.{_≡_, refl, sym, subst}
+use mathlib.Core.Bool.{not}
 use lib.Dec.{T}
-use lib.IntN.{pos}
-use lib.Ieee.{Float, fin, binary64, fits, isNan, ofBits, neg}
-use borrow.Author.Tests.{lt-leb, le-leb}
+use lib.Ieee.{Float, binary64, fits, isNan}
 use Rattle.float.specs.Floats.{absOf}
 use Rattle.base.proofs.Floats.{is-nan, not-nan}
 use Rattle.float.proofs.sign.Signs.{abs-is, abs-no-nan}

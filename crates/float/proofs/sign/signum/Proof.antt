@@ -1,7 +1,6 @@
 -- `float::signum` meets its contract. Assumes nothing.
 use mathlib.Core.Path.{_≡_, refl, sym, ap, _∙_, subst}
 use mathlib.Core.Bool.{Bool, not}
-use Prim.Native.Nat.{_^_}
 use lib.Dec.{T}
 use lib.IntN.{pos}
 use lib.Ieee.{Float, fin, binary64, fits, isNan, ofBits, neg}

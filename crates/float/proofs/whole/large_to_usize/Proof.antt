@@ -2,7 +2,7 @@
 use borrow.Author.Needs.{needs}
 use native.Mathlib.Nat.{le-refl}
 use lib.Ieee.{ofBits}
-use Rattle.float.proofs.whole.Saturate.{yes, no, over, capped, in-range, nothing, InRange}
+use Rattle.float.proofs.whole.Saturate.{yes, no, over, capped, in-range, nothing}
 use Rattle.float.proofs.whole.large_to_usize.Statement.{statement}
 use Rattle.float.proofs.whole.large_to_usize.Tie as tie
 

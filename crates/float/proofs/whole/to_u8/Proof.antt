@@ -1,9 +1,7 @@
 -- `float::to_u8` meets its contract. Below 2 ^ 8 the exponent's field is at most 1030, so the digits are shifted down. Assumes nothing.
-use borrow.Author.Needs.{needs}
-use mathlib.Core.Path.{_≡_, sym, subst, _∙_}
-use Prim.Native.Nat.{_/_, _^_, _≤_, _<_}
-use native.Mathlib.Nat.{le-trans, le-refl, lt-of-le-of-lt, le-of-eq}
-use native.Mathlib.Omega.{arith}
+use mathlib.Core.Path.{sym, subst, _∙_}
+use Prim.Native.Nat.{_/_, _^_, _≤_}
+use native.Mathlib.Nat.{le-trans, lt-of-le-of-lt, le-of-eq}
 use lib.Dec.{T, lit≤}
 use lib.Ieee.{binary64, fits, le, ofBits, toBits}
 use Rattle.std.proofs.num.Truncating.{one, at-least-one, is-no-nan, down-by, cut-down}

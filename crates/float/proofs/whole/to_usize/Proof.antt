@@ -1,13 +1,12 @@
 -- `float::to_usize` meets its contract. Below 2 ^ 53 the exponent's field is at most 1075, so the digits are shifted down. Assumes nothing.
 use borrow.Author.Needs.{needs}
-use mathlib.Core.Path.{_≡_, sym, subst, _∙_}
-use Prim.Native.Nat.{_/_, _^_, _≤_, _<_}
-use native.Mathlib.Nat.{le-trans, le-refl, lt-of-le-of-lt, le-of-eq}
-use native.Mathlib.Omega.{arith}
+use mathlib.Core.Path.{sym, subst}
+use Prim.Native.Nat.{_/_, _^_, _≤_}
+use native.Mathlib.Nat.{le-trans}
 use lib.Dec.{T, lit≤}
 use lib.Ieee.{binary64, fits, le, ofBits, toBits}
 use Rattle.std.proofs.num.Truncating.{one, at-least-one, is-no-nan, down-by, cut-down}
-use Rattle.float.proofs.whole.Saturate.{yes, no, over, capped, in-range, nothing, InRange}
+use Rattle.float.proofs.whole.Saturate.{yes, over, in-range, nothing, InRange}
 use Rattle.float.proofs.whole.Exponent.{exponent}
 use Rattle.float.proofs.whole.to_usize.Statement.{statement}
 use Rattle.float.proofs.whole.to_usize.Tie as tie

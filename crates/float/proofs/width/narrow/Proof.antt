@@ -1,22 +1,20 @@
+-- `float::narrow` meets its contract, range by range of the pattern. Assumes nothing.
 use borrow.Author.Needs.{needs}
 use Rattle.float.proofs.width.narrow.Statement.{statement}
 use Rattle.float.proofs.width.narrow.Tie as tie
-use mathlib.Core.Path.{_≡_, refl, sym, subst, ap, _∙_}
+use mathlib.Core.Path.{_≡_, refl, sym, subst}
 use mathlib.Core.Bool.{not}
-use Prim.Native.Nat.{ℕ, _+_, _-_, _*_, _/_, _%_, _^_, _≤_, _<_}
-use native.Mathlib.Nat.{lt-of-lt-of-le, le-of-lt}
+use Prim.Native.Nat.{_-_, _^_, _≤_, _<_}
+use native.Mathlib.Nat.{lt-of-lt-of-le}
 use native.Mathlib.Omega.{arith}
 use lib.Dec.{T, lit≤}
-use lib.Pow.{pow-pos}
-use lib.Ieee.{Float, nan, binary32, binary64, fits, isNan, div, ofBits, toBits}
+use lib.Ieee.{Float, nan, binary64, fits, isNan, div, ofBits, toBits}
 use lib.Ieee.Bits.{toBits-lt}
 use lib.Ieee.Compare.{differs-from-itself}
 use Rattle.float.specs.Floats.{narrowed}
 use Rattle.float.proofs.whole.Saturate.{yes}
 use Rattle.base.proofs.Floats.{not-nan}
-use Rattle.float.proofs.width.Ranges.{Done, in-normal, in-overflow, in-coded, in-zero, half-bounds}
-use Rattle.float.proofs.width.narrow.Reads as reads
-use Rattle.float.proofs.width.narrow.Lts as lts
+use Rattle.float.proofs.width.Ranges.{in-normal, in-overflow, in-coded, in-zero, half-bounds}
 
 held : (c : tie.Start) → T (fits binary64 (c .args .x))
 held c = subst T (sym (c .good .0 .1)) tt

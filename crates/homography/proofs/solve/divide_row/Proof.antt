@@ -1,15 +1,13 @@
-use Rattle.homography.specs.Equations.{divided, divideAt}
-use Rattle.base.proofs.Turns.{turns-begin, turns-step, turns-end, between-begin, between-step, between-end}
-use Rattle.base.specs.Loops.{turns, between, table, filled, fillAt, byRow}
-use borrow.Author.Needs.{needs}
+-- `divide_row` meets its contract. The loop's invariant: the entries from col up to j are divided. Assumes nothing.
+use mathlib.Core.Path.{_≡_}
+use Prim.Native.Nat.{_≤_, _-_}
 use native.Mathlib.Omega.{arith}
-use Prim.Native.Nat.{ℕ, suc, _≤_, _<_, _+_, _*_, _-_}
-use mathlib.Core.Path.{_≡_, refl, sym, ap, _∙_}
-use lib.ListN.{length, getD, set, length-set}
+use borrow.Author.Needs.{needs}
+use Rattle.base.proofs.Turns.{between-begin, between-step, between-end}
+use Rattle.base.specs.Loops.{between}
+use Rattle.homography.specs.Equations.{divided, divideAt}
 use Rattle.homography.proofs.solve.divide_row.Statement.{statement}
 use Rattle.homography.proofs.solve.divide_row.Tie as tie
-use Rattle.homography.proofs.solve.divide_row.Reads as reads
-use Rattle.homography.proofs.solve.divide_row.Lts as lts
 
 abbrev Inv-loop : tie.InvT-loop
 Inv-loop a₀ r col d j₀ a j = (a ≡ between col j (divideAt r d) a₀) × (col ≤ j) × (j ≤ 9)
@@ -17,49 +15,38 @@ Inv-loop a₀ r col d j₀ a j = (a ≡ between col j (divideAt r d) a₀) × (c
 abbrev μ-loop : tie.MeasureT-loop
 μ-loop a₀ r col d j₀ a j = 9 - j
 
--- src/solve.rt:43:5
 loop-holds : tie.Need-loop-holds Inv-loop μ-loop
 loop-holds c = (between-begin _ _ _, omega arith, omega arith)
 
--- src/solve.rt:44:17
 mul-i : tie.Need-mul-i Inv-loop μ-loop
 mul-i c = search needs
 
--- src/solve.rt:44:17
 add-i : tie.Need-add-i Inv-loop μ-loop
 add-i c = search needs
 
--- src/solve.rt:45:16
 mul-a : tie.Need-mul-a Inv-loop μ-loop
 mul-a c = search needs
 
--- src/solve.rt:45:16
 element-copy-out-a : tie.Need-element-copy-out-a Inv-loop μ-loop
 element-copy-out-a c = search needs
 
--- src/solve.rt:45:9
 mul-a-2 : tie.Need-mul-a-2 Inv-loop μ-loop
 mul-a-2 c = search needs
 
--- src/solve.rt:45:9
 element-write-a : tie.Need-element-write-a Inv-loop μ-loop
 element-write-a c = search needs
 
--- src/solve.rt:43:9
 add-j : tie.Need-add-j Inv-loop μ-loop
 add-j c = search needs
 
--- src/solve.rt:43:5
 loop-less : tie.Need-loop-less Inv-loop μ-loop
 loop-less c = search needs
 
--- src/solve.rt:43:5
 loop-again : tie.Need-loop-again Inv-loop μ-loop
 loop-again c =
     let l = c .before .before .loop in
     (between-step _ _ _ (l .j) (l .inv .1) (l .inv .0), omega arith, omega arith)
 
--- src/solve.rt:39:1
 returns : tie.Need-returns Inv-loop μ-loop
 unfolding divided
 returns c = between-end _ _ _ _ _ (c .before .loop .inv .0) (omega arith)

@@ -1,18 +1,16 @@
-use Rattle.homography.specs.Equations.{reduced, reduceAt}
-use borrow.Author.Tests.{eq-eqb, ne-eqb}
-use lib.Ieee.{ofBits, ofInt, round}
-use Rattle.base.proofs.Pick.{pick-yes, pick-no}
-use Rattle.base.proofs.Turns.{turns-begin, turns-step, turns-end, between-begin, between-step, between-end}
-use Rattle.base.specs.Loops.{turns, between, table, filled, fillAt, byRow}
-use borrow.Author.Needs.{needs}
+-- `reduce_row` meets its contract. The loop's invariant: the entries from col up to j are reduced. Assumes nothing.
+use mathlib.Core.Path.{_≡_, _∙_}
+use Prim.Native.Nat.{_≤_, _-_}
 use native.Mathlib.Omega.{arith}
-use Prim.Native.Nat.{ℕ, suc, _≤_, _<_, _+_, _*_, _-_}
-use mathlib.Core.Path.{_≡_, refl, sym, ap, _∙_}
-use lib.ListN.{length, getD, set, length-set}
+use lib.Ieee.{ofBits, ofInt}
+use borrow.Author.Tests.{eq-eqb, ne-eqb}
+use borrow.Author.Needs.{needs}
+use Rattle.base.proofs.Pick.{pick-yes, pick-no}
+use Rattle.base.proofs.Turns.{between-begin, between-step, between-end}
+use Rattle.base.specs.Loops.{between}
+use Rattle.homography.specs.Equations.{reduced, reduceAt}
 use Rattle.homography.proofs.solve.reduce_row.Statement.{statement}
 use Rattle.homography.proofs.solve.reduce_row.Tie as tie
-use Rattle.homography.proofs.solve.reduce_row.Reads as reads
-use Rattle.homography.proofs.solve.reduce_row.Lts as lts
 
 abbrev Inv-loop : tie.InvT-loop
 Inv-loop a₀ r col at f j₀ a j = (a ≡ between col j (reduceAt r col f) a₀) × (col ≤ j) × (j ≤ 9)
@@ -20,91 +18,70 @@ Inv-loop a₀ r col at f j₀ a j = (a ≡ between col j (reduceAt r col f) a₀
 abbrev μ-loop : tie.MeasureT-loop
 μ-loop a₀ r col at f j₀ a j = 9 - j
 
--- src/solve.rt:56:9
 returns : tie.Need-returns Inv-loop μ-loop
 unfolding reduced
 returns c = pick-yes _ _ _ (eq-eqb _ _ (c .if1 .taken))
 
--- src/solve.rt:58:14
 mul-at : tie.Need-mul-at Inv-loop μ-loop
 mul-at c = search needs
 
--- src/solve.rt:58:14
 add-at : tie.Need-add-at Inv-loop μ-loop
 add-at c = search needs
 
--- src/solve.rt:59:13
 mul-f : tie.Need-mul-f Inv-loop μ-loop
 mul-f c = search needs
 
--- src/solve.rt:59:13
 element-copy-out-f : tie.Need-element-copy-out-f Inv-loop μ-loop
 element-copy-out-f c = search needs
 
--- src/solve.rt:61:9
 returns-2 : tie.Need-returns-2 Inv-loop μ-loop
 unfolding reduced ofBits ofInt
 returns-2 c = pick-yes _ _ _ (c .if2 .taken) ∙ pick-no _ _ _ (ne-eqb _ _ (c .before .before .if1 .left))
 
--- src/solve.rt:63:5
 loop-holds : tie.Need-loop-holds Inv-loop μ-loop
 loop-holds c = (between-begin _ _ _, omega arith, omega arith)
 
--- src/solve.rt:64:17
 mul-i : tie.Need-mul-i Inv-loop μ-loop
 mul-i c = search needs
 
--- src/solve.rt:64:17
 add-i : tie.Need-add-i Inv-loop μ-loop
 add-i c = search needs
 
--- src/solve.rt:65:17
 mul-k : tie.Need-mul-k Inv-loop μ-loop
 mul-k c = search needs
 
--- src/solve.rt:65:17
 add-k : tie.Need-add-k Inv-loop μ-loop
 add-k c = search needs
 
--- src/solve.rt:66:16
 mul-a : tie.Need-mul-a Inv-loop μ-loop
 mul-a c = search needs
 
--- src/solve.rt:66:16
 element-copy-out-a : tie.Need-element-copy-out-a Inv-loop μ-loop
 element-copy-out-a c = search needs
 
--- src/solve.rt:66:27
 mul-a-2 : tie.Need-mul-a-2 Inv-loop μ-loop
 mul-a-2 c = search needs
 
--- src/solve.rt:66:27
 element-copy-out-a-2 : tie.Need-element-copy-out-a-2 Inv-loop μ-loop
 element-copy-out-a-2 c = search needs
 
--- src/solve.rt:66:9
 mul-a-3 : tie.Need-mul-a-3 Inv-loop μ-loop
 mul-a-3 c = search needs
 
--- src/solve.rt:66:9
 element-write-a : tie.Need-element-write-a Inv-loop μ-loop
 element-write-a c = search needs
 
--- src/solve.rt:63:9
 add-j : tie.Need-add-j Inv-loop μ-loop
 add-j c = search needs
 
--- src/solve.rt:63:5
 loop-less : tie.Need-loop-less Inv-loop μ-loop
 loop-less c = search needs
 
--- src/solve.rt:63:5
 loop-again : tie.Need-loop-again Inv-loop μ-loop
 loop-again c =
     let l = c .before .before .before .loop in
     (between-step _ _ _ (l .j) (l .inv .1) (l .inv .0), omega arith, omega arith)
 
--- src/solve.rt:51:1
 returns-3 : tie.Need-returns-3 Inv-loop μ-loop
 unfolding reduced ofBits ofInt
 returns-3 c =

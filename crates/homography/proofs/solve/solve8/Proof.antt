@@ -1,26 +1,17 @@
-use Rattle.homography.specs.Equations.{entry}
+-- `solve8` meets its contract. The loop's invariant: the columns up to col had a pivot and are cleared. Assumes nothing.
 use mathlib.Core.Bool.{true, false}
-use Rattle.float.specs.Floats.{absOf, tiny}
-use lib.Ieee.{lt}
-use Rattle.homography.specs.Equations.{eliminate, eliminated, noPivot, cleared, pivotOf}
-use Rattle.homography.proofs.Steps.{on, goes, halted, finished}
-use Rattle.float.specs.Floats.{d64}
-use lib.Ieee.{ofBits, ofInt, round}
-use Rattle.base.proofs.Turns.{turns-begin, turns-step, turns-end, between-begin, between-step, between-end}
-use Rattle.base.specs.Loops.{turns, between, table, filled, fillAt, byRow}
-use borrow.Author.Needs.{needs}
+use mathlib.Core.Path.{_≡_, sym, ap, _∙_}
+use Prim.Native.Nat.{_≤_, _-_}
 use native.Mathlib.Omega.{arith}
-use Prim.Native.Nat.{ℕ, suc, _≤_, _<_, _+_, _*_, _-_}
-use mathlib.Core.Path.{_≡_, refl, sym, ap, _∙_}
-use lib.ListN.{length, getD, set, length-set}
+use lib.Ieee.{lt, ofBits, ofInt, round}
+use borrow.Author.Needs.{needs}
+use Rattle.base.proofs.Turns.{turns-begin, turns-step, turns-end}
+use Rattle.base.specs.Loops.{turns}
+use Rattle.float.specs.Floats.{absOf, tiny, d64}
+use Rattle.homography.specs.Equations.{entry, eliminate, eliminated, noPivot}
+use Rattle.homography.proofs.Steps.{on, goes, halted, finished}
 use Rattle.homography.proofs.solve.solve8.Statement.{statement}
 use Rattle.homography.proofs.solve.solve8.Tie as tie
-use Rattle.homography.proofs.solve.solve8.Reads as reads
-use Rattle.homography.proofs.solve.solve8.Lts as lts
-use Rattle.float.proofs.abs.Reads as abs-reads
-use Rattle.homography.proofs.solve.clear_column.Reads as clear-column-reads
-use Rattle.homography.proofs.solve.last_column.Reads as last-column-reads
-use Rattle.homography.proofs.solve.pivot.Reads as pivot-reads
 
 abbrev Inv-loop : tie.InvT-loop
 Inv-loop a₀ col₀ a col = (on a ≡ turns col eliminate (on a₀)) × (col ≤ 8)
@@ -28,35 +19,27 @@ Inv-loop a₀ col₀ a col = (on a ≡ turns col eliminate (on a₀)) × (col �
 abbrev μ-loop : tie.MeasureT-loop
 μ-loop a₀ col₀ a col = 8 - col
 
--- src/solve.rt:103:5
 loop-holds : tie.Need-loop-holds Inv-loop μ-loop
 loop-holds c = (turns-begin _ _, search needs)
 
--- src/solve.rt:104:13
 pivot-requires : tie.Need-pivot-requires Inv-loop μ-loop
 pivot-requires c κs = search needs
 
--- src/solve.rt:105:18
 mul-at : tie.Need-mul-at Inv-loop μ-loop
 mul-at c = search needs
 
--- src/solve.rt:105:18
 add-at : tie.Need-add-at Inv-loop μ-loop
 add-at c = search needs
 
--- src/solve.rt:106:23
 mul-abs : tie.Need-mul-abs Inv-loop μ-loop
 mul-abs c = search needs
 
--- src/solve.rt:106:23
 array-read-abs : tie.Need-array-read-abs Inv-loop μ-loop
 array-read-abs c = search needs
 
--- src/solve.rt:106:12
 abs-requires : tie.Need-abs-requires Inv-loop μ-loop
 abs-requires c κs = search needs
 
--- src/solve.rt:107:13
 returns : tie.Need-returns Inv-loop μ-loop
 unfolding noPivot ofBits ofInt d64 round
 returns c =
@@ -68,19 +51,15 @@ returns c =
     in
     halted _ (l .a) (l .col) (l .inv .0) (omega arith) r
 
--- src/solve.rt:112:9
 clear-column-requires : tie.Need-clear-column-requires Inv-loop μ-loop
 clear-column-requires c κs = search needs
 
--- src/solve.rt:103:9
 add-col : tie.Need-add-col Inv-loop μ-loop
 add-col c = search needs
 
--- src/solve.rt:103:5
 loop-less : tie.Need-loop-less Inv-loop μ-loop
 loop-less c = search needs
 
--- src/solve.rt:103:5
 loop-again : tie.Need-loop-again Inv-loop μ-loop
 unfolding noPivot ofBits d64 round
 loop-again c =
@@ -92,11 +71,9 @@ loop-again c =
     in
     (ap on (c .clear-column .ensures) ∙ goes _ _ r ∙ turns-step _ _ _ (l .inv .0), omega arith)
 
--- src/solve.rt:114:9
 last-column-requires : tie.Need-last-column-requires Inv-loop μ-loop
 last-column-requires c κs = search needs
 
--- src/solve.rt:99:1
 returns-2 : tie.Need-returns-2 Inv-loop μ-loop
 unfolding eliminated
 returns-2 c =

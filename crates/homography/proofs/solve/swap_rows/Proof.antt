@@ -1,15 +1,13 @@
-use Rattle.homography.specs.Equations.{swapped, swapAt}
-use Rattle.base.proofs.Turns.{turns-begin, turns-step, turns-end, between-begin, between-step, between-end}
-use Rattle.base.specs.Loops.{turns, between, table, filled, fillAt, byRow}
-use borrow.Author.Needs.{needs}
+-- `swap_rows` meets its contract. The loop's invariant: the first j entries have changed places. Assumes nothing.
+use mathlib.Core.Path.{_≡_}
+use Prim.Native.Nat.{_≤_, _-_}
 use native.Mathlib.Omega.{arith}
-use Prim.Native.Nat.{ℕ, suc, _≤_, _<_, _+_, _*_, _-_}
-use mathlib.Core.Path.{_≡_, refl, sym, ap, _∙_}
-use lib.ListN.{length, getD, set, length-set}
+use borrow.Author.Needs.{needs}
+use Rattle.base.proofs.Turns.{turns-begin, turns-step, turns-end}
+use Rattle.base.specs.Loops.{turns}
+use Rattle.homography.specs.Equations.{swapped, swapAt}
 use Rattle.homography.proofs.solve.swap_rows.Statement.{statement}
 use Rattle.homography.proofs.solve.swap_rows.Tie as tie
-use Rattle.homography.proofs.solve.swap_rows.Reads as reads
-use Rattle.homography.proofs.solve.swap_rows.Lts as lts
 
 abbrev Inv-loop : tie.InvT-loop
 Inv-loop a₀ p q j₀ a j = (a ≡ turns j (swapAt p q) a₀) × (j ≤ 9)
@@ -17,71 +15,54 @@ Inv-loop a₀ p q j₀ a j = (a ≡ turns j (swapAt p q) a₀) × (j ≤ 9)
 abbrev μ-loop : tie.MeasureT-loop
 μ-loop a₀ p q j₀ a j = 9 - j
 
--- src/solve.rt:29:5
 loop-holds : tie.Need-loop-holds Inv-loop μ-loop
 loop-holds c = (turns-begin _ _, search needs)
 
--- src/solve.rt:30:17
 mul-i : tie.Need-mul-i Inv-loop μ-loop
 mul-i c = search needs
 
--- src/solve.rt:30:17
 add-i : tie.Need-add-i Inv-loop μ-loop
 add-i c = search needs
 
--- src/solve.rt:31:17
 mul-k : tie.Need-mul-k Inv-loop μ-loop
 mul-k c = search needs
 
--- src/solve.rt:31:17
 add-k : tie.Need-add-k Inv-loop μ-loop
 add-k c = search needs
 
--- src/solve.rt:32:17
 mul-t : tie.Need-mul-t Inv-loop μ-loop
 mul-t c = search needs
 
--- src/solve.rt:32:17
 element-copy-out-t : tie.Need-element-copy-out-t Inv-loop μ-loop
 element-copy-out-t c = search needs
 
--- src/solve.rt:33:16
 mul-a : tie.Need-mul-a Inv-loop μ-loop
 mul-a c = search needs
 
--- src/solve.rt:33:16
 element-copy-out-a : tie.Need-element-copy-out-a Inv-loop μ-loop
 element-copy-out-a c = search needs
 
--- src/solve.rt:33:9
 mul-a-2 : tie.Need-mul-a-2 Inv-loop μ-loop
 mul-a-2 c = search needs
 
--- src/solve.rt:33:9
 element-write-a : tie.Need-element-write-a Inv-loop μ-loop
 element-write-a c = search needs
 
--- src/solve.rt:34:9
 mul-a-3 : tie.Need-mul-a-3 Inv-loop μ-loop
 mul-a-3 c = search needs
 
--- src/solve.rt:34:9
 element-write-a-2 : tie.Need-element-write-a-2 Inv-loop μ-loop
 element-write-a-2 c = search needs
 
--- src/solve.rt:29:9
 add-j : tie.Need-add-j Inv-loop μ-loop
 add-j c = search needs
 
--- src/solve.rt:29:5
 loop-less : tie.Need-loop-less Inv-loop μ-loop
 loop-less c = search needs
 
--- src/solve.rt:29:5
 loop-again : tie.Need-loop-again Inv-loop μ-loop
 loop-again c = (turns-step _ _ _ (c .before .before .before .loop .inv .0), omega arith)
 
--- src/solve.rt:25:1
 returns : tie.Need-returns Inv-loop μ-loop
 unfolding swapped
 returns c = turns-end _ _ _ _ (c .before .loop .inv .0) (omega arith)

@@ -1,20 +1,16 @@
+-- `sampling::internal::reading` meets its contract. The four pixels are in the picture. Assumes nothing.
+use native.Mathlib.Omega.{arith}
+use Prim.Native.Nat.{ℕ, _<_, _-_}
+use mathlib.Core.Path.{_≡_, ap, _∙_}
+use borrow.Author.Needs.{needs}
 use Rattle.frame.specs.Image.{Image, px}
 use Rattle.frame.specs.declared.Rgb.{Rgb}
 use Rattle.frame.specs.declared.Point.{Point}
 use Rattle.sampling.specs.declared.Span.{Span}
 use Rattle.sampling.specs.Reading.{bilinear, colourAt, blended, spanOf}
 use Rattle.sampling.proofs.Whole.{first-in, next-in}
-use native.Mathlib.Omega.{arith}
-use Prim.Native.Nat.{ℕ, suc, _≤_, _<_, _+_, _*_, _-_}
-use mathlib.Core.Path.{_≡_, refl, sym, ap, _∙_}
-use lib.ListN.{length, getD, set, length-set}
-use borrow.Author.Needs.{needs}
 use Rattle.sampling.proofs.internal.reading.Statement.{statement}
 use Rattle.sampling.proofs.internal.reading.Tie as tie
-use Rattle.sampling.proofs.internal.reading.Reads as reads
-use Rattle.sampling.proofs.internal.reading.Lts as lts
-use Rattle.sampling.proofs.internal.blend.Reads as blend-reads
-use Rattle.sampling.proofs.internal.span.Reads as span-reads
 
 module _ (c : tie.After-span) where
   across-first : c .span .result .first < c .before .before .args .w
@@ -46,51 +42,41 @@ placed : (img : Image) (p : Point) (s t : Span) → s ≡ spanOf (img .w) (p .x)
 unfolding bilinear
 placed img p s t e f = cc
 
--- src/internal.rt:70:9
 span-requires : tie.Need-span-requires
 span-requires c κs = search needs
 
--- src/internal.rt:71:9
 span-requires-2 : tie.Need-span-requires-2
 span-requires-2 c κs = search needs
 
--- src/internal.rt:72:9
 px-requires : tie.Need-px-requires
 px-requires c κs =
     let k = c in
     (across-first (k .before), down-first k, omega arith, omega arith, k .before .before .before .pre .bytes-held)
 
--- src/internal.rt:73:9
 px-requires-2 : tie.Need-px-requires-2
 px-requires-2 c κs =
     let k = c .before in
     (across-next (k .before), down-first k, omega arith, omega arith, k .before .before .before .pre .bytes-held)
 
--- src/internal.rt:74:9
 px-requires-3 : tie.Need-px-requires-3
 px-requires-3 c κs =
     let k = c .before .before in
     (across-first (k .before), down-next k, omega arith, omega arith, k .before .before .before .pre .bytes-held)
 
--- src/internal.rt:75:9
 px-requires-4 : tie.Need-px-requires-4
 px-requires-4 c κs =
     let k = c .before .before .before in
     (across-next (k .before), down-next k, omega arith, omega arith, k .before .before .before .pre .bytes-held)
 
--- src/internal.rt:79:12
 blend-requires : tie.Need-blend-requires
 blend-requires c κs = search needs
 
--- src/internal.rt:80:12
 blend-requires-2 : tie.Need-blend-requires-2
 blend-requires-2 c κs = search needs
 
--- src/internal.rt:81:12
 blend-requires-3 : tie.Need-blend-requires-3
 blend-requires-3 c κs = search needs
 
--- src/internal.rt:66:1
 returns : tie.Need-returns
 returns c =
     let k = c .before .before .before .before .before .before .before in

@@ -1,0 +1,15 @@
+-- Laws that other crates' proofs cite.
+pub mod Sums
+pub mod Grid
+pub mod Steps
+pub mod Joins
+pub mod Floods
+pub mod Pairs
+pub mod Scans
+pub mod Records
+pub mod Stacks
+pub mod Parts
+pub mod Whole
+pub mod Unique
+pub mod Masks
+pub mod Refused

@@ -1,0 +1,132 @@
+-- The flat list: what a stored record leaves of each record, and the list as a table of records. Assumes nothing.
+use Prim.Native.Nat.{ℕ, zero, suc, _+_, _*_, _≤_, _<_}
+use native.Mathlib.Numerals.{add-one}
+use native.Mathlib.Omega.{arith}
+use mathlib.Core.Path.{_≡_, refl, sym, ap, ap₂, _∙_}
+use mathlib.Core.List.{List, [], _∷_, _++_}
+use lib.ListN.{length, getD, set, drop, length-set}
+use lib.Seq.{getD-set-same, getD-set-other, drop-set-lt}
+use Rattle.base.specs.Loops.{table}
+use Rattle.blobs.specs.declared.Blob.{Blob}
+use Rattle.blobs.specs.Patches.{recordLength, patchAt, stored}
+
+-- ---- tables
+pub table-same : {A : Type 0} (f g : ℕ → A) (n : ℕ) → ((k : ℕ) → k < n → f k ≡ g k) → table f n ≡ table g n
+unfolding table
+table-same f g zero h = refl
+table-same f g (suc n) h = ap₂ _∷_ (h 0 (omega arith)) (table-same (λ k. f (suc k)) (λ k. g (suc k)) n (λ k l. h (suc k) (omega arith)))
+
+pub table-more : {A : Type 0} (f : ℕ → A) (n : ℕ) → table f (suc n) ≡ table f n ++ (f n ∷ [])
+unfolding table
+table-more f zero = refl
+table-more f (suc n) = ap (λ l. f 0 ∷ l) (table-more (λ k. f (suc k)) n)
+
+pub table-at : {A : Type 0} (f : ℕ → A) (n k : ℕ) (d : A) → k < n → getD (table f n) k d ≡ f k
+unfolding table
+table-at f zero k d l = absurd (omega arith)
+table-at f (suc n) zero d l = refl
+table-at f (suc n) (suc k) d l = table-at (λ k. f (suc k)) n k d (omega arith)
+
+pub length-table : {A : Type 0} (f : ℕ → A) (n : ℕ) → length (table f n) ≡ n
+unfolding table
+length-table f zero = refl
+length-table f (suc n) = ap suc (length-table (λ k. f (suc k)) n)
+
+-- ---- seven stores in a row
+module _ (l : List ℕ) (b v0 v1 v2 v3 v4 v5 v6 : ℕ) where
+  abbrev l1 : List ℕ
+  l1 = set l b v0
+
+  abbrev l2 : List ℕ
+  l2 = set l1 (b + 1) v1
+
+  abbrev l3 : List ℕ
+  l3 = set l2 (b + 2) v2
+
+  abbrev l4 : List ℕ
+  l4 = set l3 (b + 3) v3
+
+  abbrev l5 : List ℕ
+  l5 = set l4 (b + 4) v4
+
+  abbrev l6 : List ℕ
+  l6 = set l5 (b + 5) v5
+
+  abbrev l7 : List ℕ
+  l7 = set l6 (b + 6) v6
+
+  out : (i : ℕ) → i < b → getD l7 i 0 ≡ getD l i 0
+  out i c = getD-set-other l6 (b + 6) i v6 0 (λ x. omega arith) ∙ getD-set-other l5 (b + 5) i v5 0 (λ x. omega arith) ∙ getD-set-other l4 (b + 4) i v4 0 (λ x. omega arith) ∙ getD-set-other l3 (b + 3) i v3 0 (λ x. omega arith) ∙ getD-set-other l2 (b + 2) i v2 0 (λ x. omega arith) ∙ getD-set-other l1 (b + 1) i v1 0 (λ x. omega arith) ∙ getD-set-other l b i v0 0 (λ x. omega arith)
+
+  rest : (n : ℕ) → b + 7 ≤ n → drop n l7 ≡ drop n l
+  rest n h = drop-set-lt n l6 (b + 6) v6 (omega arith) ∙ drop-set-lt n l5 (b + 5) v5 (omega arith) ∙ drop-set-lt n l4 (b + 4) v4 (omega arith) ∙ drop-set-lt n l3 (b + 3) v3 (omega arith) ∙ drop-set-lt n l2 (b + 2) v2 (omega arith) ∙ drop-set-lt n l1 (b + 1) v1 (omega arith) ∙ drop-set-lt n l b v0 (omega arith)
+
+  long : length l7 ≡ length l
+  long = simp length-set
+
+  module _ (h : b + 7 ≤ length l) where
+    p0 : getD l7 b 0 ≡ v0
+    p0 = getD-set-other l6 (b + 6) b v6 0 (λ x. omega arith) ∙ getD-set-other l5 (b + 5) b v5 0 (λ x. omega arith) ∙ getD-set-other l4 (b + 4) b v4 0 (λ x. omega arith) ∙ getD-set-other l3 (b + 3) b v3 0 (λ x. omega arith) ∙ getD-set-other l2 (b + 2) b v2 0 (λ x. omega arith) ∙ getD-set-other l1 (b + 1) b v1 0 (λ x. omega arith) ∙ getD-set-same l b v0 0 (omega arith)
+
+    p1 : getD l7 (b + 1) 0 ≡ v1
+    p1 = getD-set-other l6 (b + 6) (b + 1) v6 0 (λ x. omega arith) ∙ getD-set-other l5 (b + 5) (b + 1) v5 0 (λ x. omega arith) ∙ getD-set-other l4 (b + 4) (b + 1) v4 0 (λ x. omega arith) ∙ getD-set-other l3 (b + 3) (b + 1) v3 0 (λ x. omega arith) ∙ getD-set-other l2 (b + 2) (b + 1) v2 0 (λ x. omega arith) ∙ getD-set-same l1 (b + 1) v1 0 (simp length-set (omega arith))
+
+    p2 : getD l7 (b + 2) 0 ≡ v2
+    p2 = getD-set-other l6 (b + 6) (b + 2) v6 0 (λ x. omega arith) ∙ getD-set-other l5 (b + 5) (b + 2) v5 0 (λ x. omega arith) ∙ getD-set-other l4 (b + 4) (b + 2) v4 0 (λ x. omega arith) ∙ getD-set-other l3 (b + 3) (b + 2) v3 0 (λ x. omega arith) ∙ getD-set-same l2 (b + 2) v2 0 (simp length-set (omega arith))
+
+    p3 : getD l7 (b + 3) 0 ≡ v3
+    p3 = getD-set-other l6 (b + 6) (b + 3) v6 0 (λ x. omega arith) ∙ getD-set-other l5 (b + 5) (b + 3) v5 0 (λ x. omega arith) ∙ getD-set-other l4 (b + 4) (b + 3) v4 0 (λ x. omega arith) ∙ getD-set-same l3 (b + 3) v3 0 (simp length-set (omega arith))
+
+    p4 : getD l7 (b + 4) 0 ≡ v4
+    p4 = getD-set-other l6 (b + 6) (b + 4) v6 0 (λ x. omega arith) ∙ getD-set-other l5 (b + 5) (b + 4) v5 0 (λ x. omega arith) ∙ getD-set-same l4 (b + 4) v4 0 (simp length-set (omega arith))
+
+    p5 : getD l7 (b + 5) 0 ≡ v5
+    p5 = getD-set-other l6 (b + 6) (b + 5) v6 0 (λ x. omega arith) ∙ getD-set-same l5 (b + 5) v5 0 (simp length-set (omega arith))
+
+    p6 : getD l7 (b + 6) 0 ≡ v6
+    p6 = getD-set-same l6 (b + 6) v6 0 (simp length-set (omega arith))
+
+-- ---- a stored record
+module _ (l : List ℕ) (j : ℕ) (t : Blob) where
+  pub length-stored : length (stored l j t) ≡ length l
+  unfolding stored
+  length-stored = long l (recordLength * j) (t .area) (t .sx) (t .sy) (t .x0) (t .y0) (t .x1) (t .y1)
+
+  pub stored-here : recordLength * j + 7 ≤ length l → patchAt (stored l j t) j ≡ t
+  unfolding stored patchAt
+  stored-here h =
+      let b = recordLength * j in
+      let e0 = p0 l b (t .area) (t .sx) (t .sy) (t .x0) (t .y0) (t .x1) (t .y1) h in
+      let e1 = p1 l b (t .area) (t .sx) (t .sy) (t .x0) (t .y0) (t .x1) (t .y1) h in
+      let e2 = p2 l b (t .area) (t .sx) (t .sy) (t .x0) (t .y0) (t .x1) (t .y1) h in
+      let e3 = p3 l b (t .area) (t .sx) (t .sy) (t .x0) (t .y0) (t .x1) (t .y1) h in
+      let e4 = p4 l b (t .area) (t .sx) (t .sy) (t .x0) (t .y0) (t .x1) (t .y1) h in
+      let e5 = p5 l b (t .area) (t .sx) (t .sy) (t .x0) (t .y0) (t .x1) (t .y1) h in
+      let e6 = p6 l b (t .area) (t .sx) (t .sy) (t .x0) (t .y0) (t .x1) (t .y1) h in
+      λ i. record { area = e0 i; sx = e1 i; sy = e2 i; x0 = e3 i; y0 = e4 i; x1 = e5 i; y1 = e6 i }
+
+  pub stored-before : (k : ℕ) → k < j → patchAt (stored l j t) k ≡ patchAt l k
+  unfolding stored patchAt
+  stored-before k h =
+      let b = recordLength * j in
+      let o : (d : ℕ) → d < 7 → getD (stored l j t) (recordLength * k + d) 0 ≡ getD l (recordLength * k + d) 0 =
+      λ d x. out l b (t .area) (t .sx) (t .sy) (t .x0) (t .y0) (t .x1) (t .y1) (recordLength * k + d) (omega arith) in
+      let e0 : getD (stored l j t) (recordLength * k) 0 ≡ getD l (recordLength * k) 0 = out l b (t .area) (t .sx) (t .sy) (t .x0) (t .y0) (t .x1) (t .y1) (recordLength * k) (omega arith) in
+      let e1 = o 1 (omega arith) in
+      let e2 = o 2 (omega arith) in
+      let e3 = o 3 (omega arith) in
+      let e4 = o 4 (omega arith) in
+      let e5 = o 5 (omega arith) in
+      let e6 = o 6 (omega arith) in
+      λ i. record { area = e0 i; sx = e1 i; sy = e2 i; x0 = e3 i; y0 = e4 i; x1 = e5 i; y1 = e6 i }
+
+  pub stored-rest : (n : ℕ) → j < n → drop (recordLength * n) (stored l j t) ≡ drop (recordLength * n) l
+  unfolding stored
+  stored-rest n h = rest l (recordLength * j) (t .area) (t .sx) (t .sy) (t .x0) (t .y0) (t .x1) (t .y1) (recordLength * n) (omega arith)
+
+  -- one record more
+  pub stored-table : recordLength * j + 7 ≤ length l → table (patchAt (stored l j t)) (j + 1) ≡ table (patchAt l) j ++ (t ∷ [])
+  stored-table h =
+      ap (table (patchAt (stored l j t))) (add-one j)
+      ∙ table-more (patchAt (stored l j t)) j
+      ∙ ap₂ (λ x y. x ++ (y ∷ [])) (table-same (patchAt (stored l j t)) (patchAt l) j stored-before) (stored-here h)

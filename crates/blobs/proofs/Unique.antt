@@ -1,0 +1,111 @@
+-- What the statements decide: a patch has one record, and a mask one patch list. Assumes nothing.
+use mathlib.Core.Path.{_≡_, refl, sym, ap, subst, _∙_}
+use mathlib.Core.Logic.{_⊎_, inl, inr, ⊎-elim}
+use mathlib.Core.List.{List}
+use Prim.Native.Nat.{ℕ, zero, suc, _+_, _*_, _≤_, _<_}
+use native.Mathlib.Nat.{le-antisymm, eq-or-lt-of-le, le-of-suc-le-suc}
+use native.Mathlib.Decide.{decLt}
+use native.Mathlib.Omega.{arith}
+use lib.ListN.{length, getD}
+use lib.Seq.{ext-getD}
+use Rattle.base.specs.Loops.{table}
+use Rattle.blobs.specs.declared.Blob.{Blob}
+use Rattle.blobs.specs.Patches.{Dark, Joined, total, Marks, Least, Greatest, one, column, row, PatchOf, First, patchAt, PatchList}
+use Rattle.blobs.proofs.Sums.{total-same}
+use Rattle.blobs.proofs.Joins.{joined-sym}
+use Rattle.blobs.proofs.Records.{table-same}
+
+lt-or-ge : (i j : ℕ) → (i < j) ⊎ (j ≤ i)
+lt-or-ge i j = go (decLt i j)
+  where
+    go : Dec (i < j) → (i < j) ⊎ (j ≤ i)
+    go (yes y) = inl y
+    go (no n) = inr (omega arith)
+
+marks-same : (c d : ℕ → ℕ) (P : ℕ → Type 0) → Marks c P → Marks d P → (q : ℕ) → c q ≡ d q
+marks-same c d P m n q = ⊎-elim
+    (λ a. ⊎-elim (λ b. a .0 ∙ sym (b .0)) (λ b. absurd (b .1 (a .1))) (n q))
+    (λ a. ⊎-elim (λ b. absurd (a .1 (b .1))) (λ b. a .0 ∙ sym (b .0)) (n q))
+    (m q)
+
+least-same : (f : ℕ → ℕ) (P : ℕ → Type 0) (a b : ℕ) → Least f P a → Least f P b → a ≡ b
+least-same f P a b l m = le-antisymm (subst (λ z. a ≤ z) (m .1 .2) (l .0 (m .1 .0) (m .1 .1))) (subst (λ z. b ≤ z) (l .1 .2) (m .0 (l .1 .0) (l .1 .1)))
+
+greatest-same : (f : ℕ → ℕ) (P : ℕ → Type 0) (a b : ℕ) → Greatest f P a → Greatest f P b → a ≡ b
+greatest-same f P a b l m = le-antisymm (subst (λ z. z ≤ b) (l .1 .2) (m .0 (l .1 .0) (l .1 .1))) (subst (λ z. z ≤ a) (m .1 .2) (l .0 (m .1 .0) (m .1 .1)))
+
+-- a patch has one record
+pub patch-unique : (m : List ℕ) (w a : ℕ) (t u : Blob) → PatchOf m w a t → PatchOf m w a u → t ≡ u
+patch-unique m w a t u p q =
+    let J = Joined m w a in
+    let e : (k : ℕ) → p .marks k ≡ q .marks k = marks-same (p .marks) (q .marks) J (p .marked) (q .marked) in
+    let k0 : t .area ≡ u .area = p .area-is ∙ total-same one (p .marks) (q .marks) (length m) (λ k l. e k) ∙ sym (q .area-is) in
+    let k1 : t .sx ≡ u .sx = p .sx-is ∙ total-same (column w) (p .marks) (q .marks) (length m) (λ k l. e k) ∙ sym (q .sx-is) in
+    let k2 : t .sy ≡ u .sy = p .sy-is ∙ total-same (row w) (p .marks) (q .marks) (length m) (λ k l. e k) ∙ sym (q .sy-is) in
+    let k3 : t .x0 ≡ u .x0 = least-same (column w) J (t .x0) (u .x0) (p .x0-is) (q .x0-is) in
+    let k4 : t .y0 ≡ u .y0 = least-same (row w) J (t .y0) (u .y0) (p .y0-is) (q .y0-is) in
+    let k5 : t .x1 ≡ u .x1 = greatest-same (column w) J (t .x1) (u .x1) (p .x1-is) (q .x1-is) in
+    let k6 : t .y1 ≡ u .y1 = greatest-same (row w) J (t .y1) (u .y1) (p .y1-is) (q .y1-is) in
+    λ i. record { area = k0 i; sx = k1 i; sy = k2 i; x0 = k3 i; y0 = k4 i; x1 = k5 i; y1 = k6 i }
+
+-- ---- the patch list is decided by the mask
+
+module _ (m : List ℕ) (w : ℕ) where
+  -- every first pixel stands in the list
+  pub listed : {l l′ : List ℕ} {n : ℕ} {firsts : List ℕ} → PatchList m w l l′ n firsts → (p : ℕ) → First m w p → (j : ℕ) × (j < n) × (getD firsts j 0 ≡ p)
+  listed {l} {l′} {n} {firsts} h p f =
+      let e = h .every p (f .0) in
+      (e .0, e .1, le-antisymm (h .first (e .0) (e .1) .1 p (e .2)) (f .1 (getD firsts (e .0) 0) (joined-sym (e .2))))
+
+  module _ {k k′ l l′ : List ℕ} {n o : ℕ} {F G : List ℕ} (a : PatchList m w k k′ n F) (b : PatchList m w l l′ o G) where
+    -- where the lists agree below j, the j-th of the first is not before that of the second
+    not-before : (j : ℕ) → j < n → ((i : ℕ) → i < j → getD F i 0 ≡ getD G i 0) → (j < o) × (getD G j 0 ≤ getD F j 0)
+    not-before j h same = go (listed b (getD F j 0) (a .first j h))
+      where
+        go : (i : ℕ) × (i < o) × (getD G i 0 ≡ getD F j 0) → (j < o) × (getD G j 0 ≤ getD F j 0)
+        go c = ⊎-elim
+            (λ l. absurd (let x : getD F (c .0) 0 < getD F j 0 = a .ordered (c .0) j l h in let y : getD F (c .0) 0 ≡ getD G (c .0) 0 = same (c .0) l in let z : getD G (c .0) 0 ≡ getD F j 0 = c .2 in omega arith))
+            (λ l. (
+              omega (arith, c .1),
+              ⊎-elim
+                  (λ e. subst (λ z. getD G z 0 ≤ getD F j 0) (sym e) (let z : getD G (c .0) 0 ≡ getD F j 0 = c .2 in omega arith))
+                  (λ e. let z : getD G (c .0) 0 ≡ getD F j 0 = c .2 in let y : getD G j 0 < getD G (c .0) 0 = b .ordered j (c .0) e (c .1) in omega arith)
+                  (eq-or-lt-of-le l),
+            ))
+            (lt-or-ge (c .0) j)
+
+  module _ {k k′ l l′ : List ℕ} {n o : ℕ} {F G : List ℕ} (a : PatchList m w k k′ n F) (b : PatchList m w l l′ o G) where
+    agree : (j i : ℕ) → i < j → i < n → getD F i 0 ≡ getD G i 0
+    agree zero i h r = absurd (omega arith)
+    agree (suc j) i h r = ⊎-elim (λ e. here-too i r (λ x y. agree j x (omega arith) (omega arith))) (λ l. agree j i l r) (eq-or-lt-of-le (le-of-suc-le-suc h))
+      where
+        here-too : (i : ℕ) → i < n → ((x : ℕ) → x < i → getD F x 0 ≡ getD G x 0) → getD F i 0 ≡ getD G i 0
+        here-too i r s =
+            let x = not-before a b i r s in
+            let y = not-before b a i (x .0) (λ z t. sym (s z t)) in
+            le-antisymm (y .1) (x .1)
+
+    -- as many patches, with the same first pixels and the same records
+    pub list-firsts : (j : ℕ) → j < n → (j < o) × (getD F j 0 ≡ getD G j 0)
+    list-firsts j h = (not-before a b j h (λ i l. agree j i l (omega arith)) .0, agree (suc j) j (omega arith) h)
+
+    pub list-records : (j : ℕ) → j < n → patchAt k′ j ≡ patchAt l′ j
+    list-records j h =
+        let e = list-firsts j h in
+        patch-unique m w (getD F j 0) (patchAt k′ j) (patchAt l′ j) (a .records j h) (subst (λ z. PatchOf m w z (patchAt l′ j)) (sym (e .1)) (b .records j (e .0)))
+
+  pub list-number : {k k′ l l′ : List ℕ} {n o : ℕ} {F G : List ℕ} → PatchList m w k k′ n F → PatchList m w l l′ o G → n ≡ o
+  list-number {n} {o} a b = le-antisymm (at-most n o (λ j h. list-firsts a b j h .0)) (at-most o n (λ j h. list-firsts b a j h .0))
+    where
+      at-most : (n o : ℕ) → ((j : ℕ) → j < n → j < o) → n ≤ o
+      at-most zero o f = omega arith
+      at-most (suc n) o f = f n (omega arith)
+
+  -- two lists that satisfy the statement are equal: as many records, the same first pixels, the same records
+  pub lists-equal : {k k′ l l′ : List ℕ} {n o : ℕ} {F G : List ℕ} → PatchList m w k k′ n F → PatchList m w l l′ o G → (n ≡ o) × (F ≡ G) × (table (patchAt k′) n ≡ table (patchAt l′) o)
+  lists-equal {k} {k′} {l} {l′} {n} {o} {F} {G} a b =
+      let e = list-number a b in (
+        e,
+        ext-getD 0 F G (a .many ∙ e ∙ sym (b .many)) (λ i h. list-firsts a b i (omega (arith, a .many)) .1),
+        table-same (patchAt k′) (patchAt l′) n (list-records a b) ∙ ap (table (patchAt l′)) e,
+      )

@@ -1,0 +1,78 @@
+-- `blobs::internal::look` meets its contract. Assumes nothing.
+use Prim.Native.Nat.{ℕ, _+_, _-_, _*_, _/_, _%_, _≤_, _<_}
+use native.Mathlib.Omega.{arith}
+use mathlib.Core.Path.{_≡_, refl, sym, ap, subst, _∙_}
+use mathlib.Core.List.{List, [], _∷_}
+use denote.Ref.{now}
+use borrow.Author.Needs.{needs}
+use lib.ListN.{length, getD, set}
+use Rattle.blobs.specs.Stack.{marking, stackOf}
+use Rattle.blobs.proofs.Stacks.{look-light, look-seen, look-push, stack-push, stack-room}
+use Rattle.blobs.proofs.internal.look.Statement.{statement}
+use Rattle.blobs.proofs.internal.look.Tie as tie
+
+shared-slice-read-if1 : tie.Need-shared-slice-read-if1
+shared-slice-read-if1 c = search needs
+
+returns : tie.Need-returns
+returns c =
+    let a = c .before .before in
+    look-light (now (a .args .mask)) (a .args .q) _ (c .if1 .taken)
+
+slice-read-if2 : tie.Need-slice-read-if2
+slice-read-if2 c = search needs
+
+returns-2 : tie.Need-returns-2
+returns-2 c =
+    let a = c .before .before .before .before in
+    look-seen (now (a .args .mask)) (a .args .q) _ (c .if2 .taken)
+
+slice-write-seen : tie.Need-slice-write-seen
+slice-write-seen c = search needs
+
+cast-waiting : tie.Need-cast-waiting
+cast-waiting c = search needs
+
+mul-waiting : tie.Need-mul-waiting
+mul-waiting c =
+    let a = c .before .before .before .before in
+    omega (arith, stack-room (a .args .q) (a .pre .0) (a .pre .1 .0) (c .if2 .left), a .pre .0 .long)
+
+slice-write-waiting : tie.Need-slice-write-waiting
+slice-write-waiting c =
+    let a = c .before .before .before .before in
+    stack-room (a .args .q) (a .pre .0) (a .pre .1 .0) (c .if2 .left)
+
+add-result : tie.Need-add-result
+add-result c =
+    let a = c .before .before .before .before in
+    omega (arith, stack-room (a .args .q) (a .pre .0) (a .pre .1 .0) (c .if2 .left), a .pre .0 .long)
+
+same-length : tie.Need-same-length
+same-length c = search needs
+
+same-length-2 : tie.Need-same-length-2
+same-length-2 c = search needs
+
+returns-3 : tie.Need-returns-3
+returns-3 c =
+    let a = c .before .before .before .before in
+    ap (marking (set (now (a .args .seen)) (a .args .q) 1)) (stack-push (now (a .args .waiting)) (a .args .top) (a .args .q) (stack-room (a .args .q) (a .pre .0) (a .pre .1 .0) (c .if2 .left)))
+    ∙ look-push (now (a .args .mask)) (a .args .q) _ (c .before .before .if1 .left) (c .if2 .left)
+
+pub look-spec : {M : Type 1} → statement M
+look-spec =
+    tie.close
+    (tie.spec
+    shared-slice-read-if1
+    returns
+    slice-read-if2
+    returns-2
+    slice-write-seen
+    cast-waiting
+    mul-waiting
+    slice-write-waiting
+    add-result
+    same-length
+    same-length-2
+    returns-3)

@@ -1,0 +1,47 @@
+-- `blobs::internal::look_down` meets its contract. Assumes nothing.
+use Prim.Native.Nat.{ℕ, _+_, _-_, _*_, _/_, _%_, _≤_, _<_}
+use native.Mathlib.Omega.{arith}
+use mathlib.Core.Path.{_≡_, refl, sym, ap, subst, _∙_}
+use mathlib.Core.List.{List, [], _∷_}
+use denote.Ref.{now}
+use borrow.Author.Needs.{needs}
+use lib.ListN.{length, getD, set}
+use lib.Dec.{leb, ltb}
+use Rattle.base.proofs.Pick.{pick-yes, pick-no}
+use Rattle.blobs.specs.Stack.{marking, stackOf, look, lookDown}
+use borrow.Author.Tests.{lt-ltb, le-ltb}
+use Rattle.blobs.proofs.internal.look_down.Statement.{statement}
+use Rattle.blobs.proofs.internal.look_down.Tie as tie
+
+add-if1 : tie.Need-add-if1
+add-if1 c = search needs
+
+add-look : tie.Need-add-look
+add-look c = search needs
+
+look-requires : tie.Need-look-requires
+look-requires c κs = search needs
+
+same-length : tie.Need-same-length
+same-length c = search needs
+
+same-length-2 : tie.Need-same-length-2
+same-length-2 c = search needs
+
+returns : tie.Need-returns
+unfolding lookDown
+returns c =
+    let a = c .before .before .before .before .before .before .before .before .before .before .before in
+    let t = c .before .before .before .before .before .before .before .if1 .taken in
+    c .before .before .before .before .look .ensures ∙ pick-yes (ltb (a .args .p + a .args .w) (length (now (a .args .mask)))) (look (now (a .args .mask)) (a .args .p + a .args .w) (marking (now (a .args .seen)) (stackOf (now (a .args .waiting)) (a .args .top)))) (marking (now (a .args .seen)) (stackOf (now (a .args .waiting)) (a .args .top))) (lt-ltb _ _ t)
+
+returns-2 : tie.Need-returns-2
+unfolding lookDown
+returns-2 c =
+    let a = c .before .before .before .before in
+    let t = c .if1 .left in
+    pick-no (ltb (a .args .p + a .args .w) (length (now (a .args .mask)))) (look (now (a .args .mask)) (a .args .p + a .args .w) (marking (now (a .args .seen)) (stackOf (now (a .args .waiting)) (a .args .top)))) (marking (now (a .args .seen)) (stackOf (now (a .args .waiting)) (a .args .top))) (le-ltb _ _ t)
+
+pub look-down-spec : {M : Type 1} → statement M
+look-down-spec =
+    tie.close (tie.spec add-if1 add-look look-requires same-length same-length-2 returns returns-2)

@@ -1,0 +1,24 @@
+-- `blobs::internal::no_blob` meets its contract. Assumes nothing.
+use Prim.Native.Nat.{ℕ, _+_, _-_, _*_, _/_, _%_, _≤_, _<_}
+use native.Mathlib.Omega.{arith}
+use mathlib.Core.Path.{_≡_, refl, sym, ap, subst, _∙_}
+use mathlib.Core.List.{List, [], _∷_}
+use denote.Ref.{now}
+use borrow.Author.Needs.{needs}
+use lib.ListN.{length, getD, set}
+use Rattle.blobs.specs.Stack.{noBlob}
+use Rattle.blobs.proofs.internal.no_blob.Statement.{statement}
+use Rattle.blobs.proofs.internal.no_blob.Tie as tie
+
+rem-x : tie.Need-rem-x
+rem-x c = search needs
+
+div-y : tie.Need-div-y
+div-y c = search needs
+
+returns : tie.Need-returns
+unfolding noBlob
+returns c = refl
+
+pub no-blob-spec : {M : Type 1} → statement M
+no-blob-spec = tie.close (tie.spec rem-x div-y returns)

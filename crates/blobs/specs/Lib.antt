@@ -1,0 +1,6 @@
+-- Definitions that the contracts of this crate cite.
+pub mod Patches
+pub mod Stack
+pub mod Ready
+pub mod Labels
+pub mod Doors

@@ -1,0 +1,11 @@
+-- Laws that the proofs of this crate, and of those above it, cite.
+pub mod Inside
+pub mod Tallies
+pub mod Fours
+pub mod Sums
+pub mod Held
+pub mod Rules
+pub mod Listing
+pub mod Enumerations
+pub mod Unique
+pub mod Looks

@@ -1,0 +1,228 @@
+-- A look at the picture, from what its parts leave. Assumes nothing.
+use Prim.Native.Nat.{ℕ, zero, suc, _+_, _*_, _/_, _%_, _≤_, _<_, min}
+use mathlib.Core.Path.{_≡_, refl, sym, ap, subst, _∙_}
+use mathlib.Core.Bool.{Bool, true, false, cond, _||_}
+use mathlib.Core.Logic.{_⊎_, inl, inr}
+use mathlib.Core.List.{List, [], _∷_}
+use native.Mathlib.Omega.{arith}
+use borrow.Author.Tests.{ltb-false}
+use lib.Dec.{T, ltb}
+use lib.ListN.{length, getD, take, drop}
+use lib.Ieee.{Float, nan}
+use Rattle.base.specs.Loops.{table, filled, byRow}
+use Rattle.base.proofs.Plane.{length-filled, filled-at, filled-past, filled-is}
+use Rattle.base.proofs.Table.{length-table, table-at, take-filled}
+use Rattle.frame.specs.Image.{Image}
+use Rattle.frame.specs.Refusals.{Check, Tested, lowestOf, verdictOf, frameOutside, captureWrong, captureSmall}
+use Rattle.frame.specs.declared.FrameSpec.{FrameSpec}
+use Rattle.frame.specs.declared.Verdict.{Verdict}
+use Rattle.frame.specs.declared.Verdict.the-variants.{Accepted, Refused}
+use Rattle.frame.proofs.Held.{frame-held, capture-held}
+use Rattle.frame.proofs.Lowest.{Rising, none-tested}
+use Rattle.frame.proofs.Tests.{or-left, or-right}
+use Rattle.markers.specs.Layout.{noLayout}
+use Rattle.sampling.specs.Luma.{lumaAt, lumaPlane}
+use Rattle.mask.specs.Mask.{maskEntry, maskPlane, isDark, radius}
+use Rattle.mask.specs.Planes.{Planes}
+use Rattle.blobs.specs.Labels.{Labels}
+use Rattle.blobs.specs.Patches.{ink, patchAt, PatchList}
+use Rattle.blobs.specs.declared.Blob.{Blob}
+use Rattle.candidates.specs.Ring.{CandidateList}
+use Rattle.candidates.specs.Areas.{Areas, areas, lengthsOf, smallest, shorter, testsBy, lookTests}
+use Rattle.candidates.specs.Bounds.{PlanesHeld, Listable, Ready}
+use Rattle.candidates.specs.Doors.{Looked}
+use Rattle.candidates.specs.declared.Lengths.{Lengths}
+
+-- ---- from the tests to what the callees ask
+
+fails : (b : Bool) → (T b → ⊥) → b ≡ false
+fails true f = absurd (f tt)
+fails false f = refl
+
+pub tests-rising : (img : Image) (f : FrameSpec) (l : Lengths) → Rising 0 (testsBy img f l)
+unfolding testsBy
+tests-rising img f l = (omega arith, (omega arith, (omega arith, (omega arith, (omega arith, tt)))))
+
+-- no area is shorter
+pub record Long (l s : Lengths) : Type 0 where
+  pub luma : s .luma ≤ l .luma
+  pub integral : s .integral ≤ l .integral
+  pub mask : s .mask ≤ l .mask
+  pub seen : s .seen ≤ l .seen
+  pub waiting : s .waiting ≤ l .waiting
+  pub patches : s .patches ≤ l .patches
+  pub candidates : s .candidates ≤ l .candidates
+  pub places : s .«blob_index» ≤ l .«blob_index»
+
+pub long-enough : (l s : Lengths) → shorter l s ≡ false → Long l s
+unfolding shorter
+long-enough l s e =
+    let t1 = ltb (l .luma) (s .luma) in
+    let t2 = ltb (l .integral) (s .integral) in
+    let t3 = ltb (l .mask) (s .mask) in
+    let t4 = ltb (l .seen) (s .seen) in
+    let t5 = ltb (l .waiting) (s .waiting) in
+    let t6 = ltb (l .patches) (s .patches) in
+    let t7 = ltb (l .candidates) (s .candidates) in
+    let t8 = ltb (l .«blob_index») (s .«blob_index») in
+    let e7 = or-left (t1 || t2 || t3 || t4 || t5 || t6 || t7) t8 e in
+    let e6 = or-left (t1 || t2 || t3 || t4 || t5 || t6) t7 e7 in
+    let e5 = or-left (t1 || t2 || t3 || t4 || t5) t6 e6 in
+    let e4 = or-left (t1 || t2 || t3 || t4) t5 e5 in
+    let e3 = or-left (t1 || t2 || t3) t4 e4 in
+    let e2 = or-left (t1 || t2) t3 e3 in
+    record {
+      luma = ltb-false _ _ (or-left t1 t2 e2);
+      integral = ltb-false _ _ (or-right t1 t2 e2);
+      mask = ltb-false _ _ (or-right (t1 || t2) t3 e3);
+      seen = ltb-false _ _ (or-right (t1 || t2 || t3) t4 e4);
+      waiting = ltb-false _ _ (or-right (t1 || t2 || t3 || t4) t5 e5);
+      patches = ltb-false _ _ (or-right (t1 || t2 || t3 || t4 || t5) t6 e6);
+      candidates = ltb-false _ _ (or-right (t1 || t2 || t3 || t4 || t5 || t6) t7 e7);
+      places = ltb-false _ _ (or-right (t1 || t2 || t3 || t4 || t5 || t6 || t7) t8 e);
+    }
+
+-- where 1, 2, 3, 5 and 6 do not apply, a look has what it asks
+pub ready-of : (img : Image) (f : FrameSpec) (a : Areas) → frameOutside f ≡ false → captureWrong img ≡ false → shorter (lengthsOf a) (smallest (img .w) (img .h)) ≡ false → noLayout f ≡ false → captureSmall img ≡ false → Ready img f a
+unfolding smallest captureSmall
+ready-of img f a e1 e2 e3 e5 e6 =
+    let long = long-enough (lengthsOf a) (smallest (img .w) (img .h)) e3 in
+    record {
+      frame = frame-held f e1;
+      capture = capture-held img e2;
+      layout = e5;
+      wide = ltb-false _ _ (or-left (ltb (img .w) 32) (ltb (img .h) 32) e6);
+      high = ltb-false _ _ (or-right (ltb (img .w) 32) (ltb (img .h) 32) e6);
+      luma-room = long .luma;
+      integral-room = long .integral;
+      mask-room = long .mask;
+      seen-room = long .seen;
+      waiting-room = long .waiting;
+      patches-room = long .patches;
+      candidates-room = long .candidates;
+      places-room = long .places;
+    }
+
+pub ready : (img : Image) (f : FrameSpec) (a : Areas) → lowestOf (lookTests img f a) ≡ 0 → Ready img f a
+unfolding testsBy
+ready img f a e =
+    let none = none-tested (lookTests img f a) (tests-rising img f (lengthsOf a)) e in
+    ready-of img f a
+    (fails _ (λ t. none 1 (inl (refl, t))))
+    (fails _ (λ t. none 2 (inr (inl (refl, t)))))
+    (fails _ (λ t. none 3 (inr (inr (inl (refl, t))))))
+    (fails _ (λ t. none 5 (inr (inr (inr (inl (refl, t)))))))
+    (fails _ (λ t. none 6 (inr (inr (inr (inr (inl (refl, t))))))))
+
+-- ---- the parts put together
+
+bit : (b : Bool) → min (cond b 1 0) 1 ≡ cond b 1 0
+bit true = refl
+bit false = refl
+
+-- "the visited marks equal the mask"
+ink-mask : (img : Image) (f : FrameSpec) (q : ℕ) → q < img .w * img .h → ink (maskPlane img f) q ≡ maskEntry img f q
+unfolding maskPlane byRow
+ink-mask img f q l =
+    ap (λ z. min z 1) (table-at (maskEntry img f) (img .w * img .h) q 0 l)
+    ∙ bit (isDark (lumaPlane img) (img .w) (img .h) (radius (img .w) (img .h) f) (q % img .w) (q / img .w))
+
+marks-are : (img : Image) (f : FrameSpec) (s : List ℕ) → img .w * img .h ≤ length s → filled (ink (maskPlane img f)) (img .w * img .h) s ≡ filled (maskEntry img f) (img .w * img .h) s
+marks-are img f s r =
+    let n = img .w * img .h in
+    filled-is (maskEntry img f) s n 0 (filled (ink (maskPlane img f)) n s) r (length-filled (ink (maskPlane img f)) s n)
+    (λ k l. filled-at (ink (maskPlane img f)) s n k 0 l r ∙ ink-mask img f k l)
+    (λ k l. filled-past (ink (maskPlane img f)) s n k 0 l)
+
+module _ (img : Image) (f : FrameSpec) (a : Areas) (R : Ready img f a) where
+  abbrev count : ℕ
+  count = img .w * img .h
+
+  pub mask-front : {m : List ℕ} → m ≡ filled (maskEntry img f) count (a .mask) → take count m ≡ maskPlane img f
+  unfolding maskPlane
+  mask-front e = ap (take count) e ∙ take-filled (maskEntry img f) count 0 (a .mask) (R .mask-room)
+
+  pub luma-front : {l : List Float} → l ≡ filled (lumaAt img) count (a .luma) → take count l ≡ lumaPlane img
+  unfolding lumaPlane
+  luma-front e = ap (take count) e ∙ take-filled (lumaAt img) count nan (a .luma) (R .luma-room)
+
+  mask-long : length (maskPlane img f) ≡ count
+  unfolding maskPlane
+  mask-long = length-table (maskEntry img f) count
+
+  luma-long : length (lumaPlane img) ≡ count
+  unfolding lumaPlane
+  luma-long = length-table (lumaAt img) count
+
+  pub planes-held : PlanesHeld (img .w) (img .h) (maskPlane img f) (lumaPlane img)
+  planes-held =
+      record {
+        w-some = R .capture .w-least;
+        w-held = R .capture .w-most;
+        h-some = R .capture .h-least;
+        h-held = R .capture .h-most;
+        mask-long = mask-long;
+        luma-long = luma-long;
+      }
+
+  pub listable : {seen waiting patches : List ℕ} {n deep : ℕ} → Labels (maskPlane img f) (img .w) (img .h) (a .seen) (a .waiting) (a .patches) seen waiting patches n deep
+      → Listable (img .w) (img .h) (maskPlane img f) (lumaPlane img) patches n (a .candidates) (a .«blob_index»)
+  listable L =
+      record {
+        planes = planes-held;
+        before = a .patches;
+        firsts = L .firsts;
+        patches = L .records;
+        patches-long =
+            let e1 = L .records .few in
+            let e2 = L .records .long in
+            let e3 = mask-long in
+            let e4 = R .patches-room in
+            omega arith;
+        candidates-long = R .candidates-room;
+        places-long = R .places-room;
+      }
+
+  pub looked : {luma integral : List Float} {mask seen waiting patches : List ℕ} {candidates : List Float} {places : List ℕ} {n k deep : ℕ}
+      → Planes img f (a .luma) (a .integral) (a .mask) luma integral mask
+      → Labels (maskPlane img f) (img .w) (img .h) (a .seen) (a .waiting) (a .patches) seen waiting patches n deep
+      → CandidateList (maskPlane img f) (lumaPlane img) (img .w) (img .h) (patchAt patches) n (a .candidates) (a .«blob_index») candidates places k
+      → Looked img f a (areas luma integral mask seen waiting patches candidates places) n k deep
+  looked P L C =
+      record {
+        luma = P .luma-is;
+        integral = P .integral-is;
+        mask = P .mask-is;
+        seen = L .marks ∙ marks-are img f (a .seen) (R .seen-room);
+        firsts = L .firsts;
+        patches = L .records;
+        candidates = C;
+        waited = L .waited;
+        waiting-long = L .waiting-long;
+        waiting-rest = L .waiting-rest;
+      }
+
+-- ---- verdicts
+
+pub verdict-refused : (n : ℕ) → (n ≡ 0 → ⊥) → Refused n ≡ verdictOf n
+unfolding verdictOf
+verdict-refused zero h = absurd (h refl)
+verdict-refused (suc n) h = refl
+
+pub verdict-accepted : (n : ℕ) → n ≡ 0 → Accepted ≡ verdictOf n
+unfolding verdictOf
+verdict-accepted n e = rw e
+
+-- ---- the planes' fronts in the place of the planes
+
+pub labels-as : {m m′ : List ℕ} {w h : ℕ} {s k l s′ k′ l′ : List ℕ} {n d : ℕ} → m ≡ m′ → Labels m w h s k l s′ k′ l′ n d → Labels m′ w h s k l s′ k′ l′ n d
+labels-as {w = w} {h = h} {s = s} {k = k} {l = l} {s′ = s′} {k′ = k′} {l′ = l′} {n = n} {d = d} e L = subst (λ z. Labels z w h s k l s′ k′ l′ n d) e L
+
+pub listable-as : {m m′ : List ℕ} {u u′ : List Float} {w h : ℕ} {l : List ℕ} {n : ℕ} {c : List Float} {p : List ℕ} → m ≡ m′ → u ≡ u′ → Listable w h m′ u′ l n c p → Listable w h m u l n c p
+listable-as {m = m} {u′ = u′} {w = w} {h = h} {l = l} {n = n} {c = c} {p = p} e d L =
+    subst (λ z. Listable w h m z l n c p) (sym d) (subst (λ z. Listable w h z u′ l n c p) (sym e) L)
+
+pub candidates-as : {m m′ : List ℕ} {u u′ : List Float} {w h : ℕ} {t : ℕ → Blob} {n : ℕ} {c : List Float} {p : List ℕ} {c′ : List Float} {p′ : List ℕ} {k : ℕ} → m ≡ m′ → u ≡ u′
+    → CandidateList m u w h t n c p c′ p′ k → CandidateList m′ u′ w h t n c p c′ p′ k
+candidates-as {m′ = m′} {u = u} {w = w} {h = h} {t = t} {n = n} {c = c} {p = p} {c′ = c′} {p′ = p′} {k = k} e d L =
+    subst (λ z. CandidateList m′ z w h t n c p c′ p′ k) d (subst (λ z. CandidateList z u w h t n c p c′ p′ k) e L)
