@@ -117,6 +117,14 @@ fn look_up(
     top
 }
 
+// The pixel below p.
+fn below(w: usize, p: usize) -> usize
+    requires { ⌜ p + w < 2 ^ 64 ⌝ }
+    ensures { λ r. ⌜ r ≡ p + w ⌝ }
+{
+    p + w
+}
+
 // Below it.
 fn look_down(
     mask: &[u8],
@@ -131,7 +139,8 @@ fn look_down(
     ensures { λ r. ⌜ marking (now (seen .exit)) (stackOf (now (waiting .exit)) r) ≡ lookDown (now (mask .entry)) w p (marking (now (seen .entry)) (stackOf (now (waiting .entry)) top)) ⌝ }
 {
     if p + w < mask.len() {
-        return look(mask, seen, waiting, top, p + w);
+        let q = below(w, p);
+        return look(mask, seen, waiting, top, q);
     }
     top
 }

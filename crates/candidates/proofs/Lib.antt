@@ -9,3 +9,6 @@ pub mod Listing
 pub mod Enumerations
 pub mod Unique
 pub mod Looks
+pub mod Room
+pub mod Examples
+pub mod Determined

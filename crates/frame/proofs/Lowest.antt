@@ -7,7 +7,9 @@ use Prim.Native.Nat.{ℕ, zero, suc, _≤_, _<_}
 use native.Mathlib.Nat.{lt-of-not-le, le-antisymm, le-of-suc-le-suc}
 use native.Mathlib.Omega.{arith}
 use lib.Dec.{T}
-use Rattle.frame.specs.Refusals.{Lowest, Check, check, Tested, lowestOf}
+use Rattle.frame.specs.Refusals.{Lowest, Check, check, Tested, lowestOf, frameTests, sideTests, captureTests}
+use Rattle.frame.specs.Image.{Image}
+use Rattle.frame.specs.declared.FrameSpec.{FrameSpec}
 use Rattle.frame.specs.Refusals.Lowest.{accepted, refused}
 
 module _ (C : ℕ → Type 0) (positive : (k : ℕ) → C k → 1 ≤ k) where
@@ -89,3 +91,17 @@ lowest-next n t l e = rw e
 pub lowest-none : lowestOf [] ≡ 0
 unfolding lowestOf
 lowest-none = refl
+
+-- ---- the tests of this crate's definitions rise, so that a refusal is the lowest number by meaning
+
+pub frame-rising : (f : FrameSpec) → Rising 0 (frameTests f)
+unfolding frameTests
+frame-rising f = (omega arith, tt)
+
+pub side-rising : (w h : ℕ) → Rising 0 (sideTests w h)
+unfolding sideTests
+side-rising w h = (omega arith, tt)
+
+pub capture-rising : (img : Image) → Rising 0 (captureTests img)
+unfolding captureTests
+capture-rising img = (omega arith, tt)

@@ -2,15 +2,9 @@
 use Prim.Native.Nat.{ℕ, _+_, _*_, _-_, _/_}
 use Rattle.frame.specs.declared.FrameSpec.{FrameSpec}
 
+-- "`new`" keeps the Rust's margin: one cell
 unfoldable pub newFrame : ℕ → ℕ → ℕ → FrameSpec
 newFrame width height cell = record { width = width; height = height; cell = cell; margin = cell }
-
--- `CALIB_ROWS`, `HEADER_ROWS`
-abbrev pub calibRows : ℕ
-calibRows = 1
-
-abbrev pub headerRows : ℕ
-headerRows = 2
 
 -- "Where a side is below 2·margin, `cols` or `rows` is 0": the difference of whole numbers stops at 0
 unfoldable pub cols : FrameSpec → ℕ

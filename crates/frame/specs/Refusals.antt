@@ -1,5 +1,5 @@
 -- Limits and refusals (document 01, "Limits" and "Refusals by who can cause them"): what every layer shares. Assumes nothing.
-use Prim.Native.Nat.{ℕ, zero, suc, _*_, _≤_, _<_}
+use Prim.Native.Nat.{ℕ, zero, suc, _*_, _<_}
 use mathlib.Core.Path.{_≡_}
 use mathlib.Core.Bool.{Bool, cond, not, _&&_, _||_}
 use mathlib.Core.List.{List, [], _∷_}
@@ -82,10 +82,3 @@ sideTests w h = check 2 (sidesWrong w h) ∷ []
 -- `bilinear`
 unfoldable pub captureTests : Image → List Check
 captureTests img = check 2 (captureWrong img) ∷ []
-
--- ---- a function of numbers: marker_size, quiet_zone, margin_for, frame_spec, new, cols, rows, marker_centers, Radial::new, bilinear, fit_for and, with
--- no tests, apply, distort, undistort, mat3_mul, rms_error. It is refused by its tests, and else gives the value; none stands for it where it is refused.
-pub record Answered {A : Type 0} (tests : List Check) (value none : A) (v : Verdict) (r : A) : Type 0 where
-  pub given : v ≡ verdictOf (lowestOf tests)
-  pub accepted : lowestOf tests ≡ 0 → r ≡ value
-  pub refused : 1 ≤ lowestOf tests → r ≡ none

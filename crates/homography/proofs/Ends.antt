@@ -12,7 +12,8 @@ use Rattle.frame.specs.declared.Quad.{Quad}
 use Rattle.frame.specs.declared.Verdict.the-variants.{Accepted, Refused}
 use Rattle.homography.specs.declared.Homography.{Homography}
 use Rattle.homography.specs.declared.Solved.{Solved}
-use Rattle.homography.specs.Equations.{equations, solvable, solution, lastColumn, unknowns, identity, hasHomography, homography, fromPoints}
+use Rattle.homography.specs.Equations.{equations, solvable, solution, lastColumn, identity, hasHomography, homography, fromPoints}
+use Rattle.homography.specs.Inner.{unknowns}
 use Rattle.homography.specs.Homography.{at, rowTimes, divisor, apply, adjugate, determinant, singular, quotients, inverse}
 
 module _ (h : Homography) (p : Point) where

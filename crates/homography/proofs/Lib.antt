@@ -3,3 +3,4 @@ pub mod Steps
 pub mod Rows
 pub mod Ends
 pub mod Transform
+pub mod Image

@@ -8,7 +8,8 @@ use lib.ListN.{getD, replicate}
 use Rattle.base.specs.Loops.{turns, table, byRow, filled}
 use Rattle.float.specs.Floats.{_⊕_, _⊗_, f64}
 use Rattle.frame.specs.declared.Quad.{Quad}
-use Rattle.homography.specs.Equations.{pointSet, rowSet, equations}
+use Rattle.homography.specs.Equations.{equations}
+use Rattle.homography.specs.Inner.{pointSet, rowSet}
 use Rattle.homography.specs.Homography.{productAt, mat3Mul}
 
 pub rows-set : (src dst : Quad) → pointSet 3 (src .bl) (dst .bl) (pointSet 2 (src .br) (dst .br) (pointSet 1 (src .tr) (dst .tr) (pointSet 0 (src .tl) (dst .tl) (replicate 72 (f64 0))))) ≡ equations src dst

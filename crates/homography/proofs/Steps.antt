@@ -9,7 +9,8 @@ use Rattle.base.specs.Loops.{turns}
 use Rattle.base.proofs.Turns.{turns-leave}
 use Rattle.base.proofs.Pick.{pick-yes, pick-no}
 use Rattle.float.specs.Floats.{f64, absOf}
-use Rattle.homography.specs.Equations.{entry, better, Elimination, eliminate, eliminated, noPivot, cleared, solvable, solution, lastColumn, unknowns}
+use Rattle.homography.specs.Equations.{entry, better, Elimination, eliminate, eliminated, noPivot, cleared, solvable, solution, lastColumn}
+use Rattle.homography.specs.Inner.{unknowns}
 
 -- a later row is the pivot only by a larger absolute value
 module _ (a : List Float) (col r p : ℕ) where

@@ -27,7 +27,7 @@ distrib a b k = ℤ-ind (λ z. (z +ℤ b) *ℤ k ≡ z *ℤ k +ℤ b *ℤ k) bas
 opposite : (a b : ℤ) → a +ℤ b ≡ 0ℤ → a ≡ negℤ b
 opposite a b h = sym (+ℤ-idr a) ∙ ap (λ z. a +ℤ z) (sym (+ℤ-invr b)) ∙ sym (+ℤ-assoc a b (negℤ b)) ∙ ap (λ z. z +ℤ negℤ b) h ∙ +ℤ-idl (negℤ b)
 
-neg-mul : (u x : ℤ) → negℤ u *ℤ x ≡ negℤ (u *ℤ x)
+pub neg-mul : (u x : ℤ) → negℤ u *ℤ x ≡ negℤ (u *ℤ x)
 neg-mul u x = opposite (negℤ u *ℤ x) (u *ℤ x) (sym (distrib (negℤ u) u x) ∙ ap (λ z. z *ℤ x) (+ℤ-invl u) ∙ zero-*ℤ x)
 
 mul-assoc : (a b c : ℤ) → a *ℤ b *ℤ c ≡ a *ℤ (b *ℤ c)

@@ -4,7 +4,7 @@ use mathlib.Core.Bool.{Bool, true, false, not, _&&_, cond}
 use mathlib.Core.List.{List, [], _∷_, _++_}
 use Prim.Native.Nat.{ℕ, _+_, _*_}
 use lib.Dec.{eqb}
-use lib.ListN.{getD, set, replicate}
+use lib.ListN.{getD, set}
 use lib.Ieee.{Float, nan, neg, lt, eq}
 use Rattle.base.specs.Loops.{turns, between, table}
 use Rattle.float.specs.Floats.{_⊖_, _⊗_, _⊘_, f64, tiny, absOf}
@@ -36,16 +36,6 @@ rowsOf p q = rowX p q ++ rowY p q
 
 unfoldable pub equations : Quad → Quad → List Float
 equations src dst = rowsOf (src .tl) (dst .tl) ++ rowsOf (src .tr) (dst .tr) ++ rowsOf (src .br) (dst .br) ++ rowsOf (src .bl) (dst .bl)
-
--- .. as they are written, row by row, into a list of zeros
-abbrev pub rowAt : ℕ → List Float → ℕ → List Float → List Float
-rowAt r row j b = set b (r * 9 + j) (getD row j nan)
-
-unfoldable pub rowSet : ℕ → List Float → List Float → List Float
-rowSet r row a = turns 9 (rowAt r row) a
-
-unfoldable pub pointSet : ℕ → Point → Point → List Float → List Float
-pointSet i p q a = rowSet (2 * i + 1) (rowY p q) (rowSet (2 * i) (rowX p q) a)
 
 -- ---- Gauss and Jordan's elimination
 
@@ -119,10 +109,6 @@ lastColumn a = table (λ i. entry a i 8) 8
 
 unfoldable pub solution : List Float → List Float
 solution a = lastColumn (eliminated a .matrix)
-
--- .. and zeros where there is no solution
-unfoldable pub unknowns : List Float → List Float
-unknowns a = cond (solvable a) (solution a) (replicate 8 (f64 0))
 
 -- ---- from_points
 

@@ -1,12 +1,16 @@
 -- The direct linear transform over exact whole numbers (Hartley and Zisserman, Multiple View Geometry, 4.1): what the eight rows are for. The rows are
 -- those of Equations, over ℤ in place of f64. Assumes nothing.
 use mathlib.Core.Path.{_≡_}
-use mathlib.Core.List.{List}
+use mathlib.Core.List.{List, [], _∷_}
+use mathlib.Core.Bool.{Bool, true, false}
 use mathlib.Core.Logic.{_↔_}
-use Prim.Native.Nat.{ℕ, _<_}
-use lib.IntN.{ℤ, pos, negℤ, _+ℤ_, _*ℤ_}
+use Prim.Native.Nat.{ℕ, _^_, _≤_, _<_}
+use lib.IntN.{ℤ, pos, negℤ, natAbs, _+ℤ_, _*ℤ_}
+use lib.Ieee.{Float}
+use lib.Ieee.Exact.{HasValue}
 use lib.ListN.{getD}
-use Rattle.homography.specs.Equations.{rowU, rowV}
+use Rattle.frame.specs.declared.Point.{Point}
+use Rattle.homography.specs.Equations.{rowU, rowV, rowX, rowY}
 
 abbrev pub 0ℤ : ℤ
 0ℤ = pos 0
@@ -53,3 +57,36 @@ abbrev pub TransformIs : Type 0
 TransformIs =
     (h : ℕ → ℤ) (src dst : ℕ → Exact)
     → ((i : ℕ) → i < 4 → BothHold h (src i) (dst i)) ↔ ((i : ℕ) → i < 4 → Takes h (src i) (dst i))
+
+-- ---- The float equations are the image of these rows, entry by entry
+
+-- s n is n or -n
+abbrev pub signed : Bool → ℕ → ℤ
+signed false n = pos n
+signed true n = negℤ (pos n)
+
+-- the float x is the whole number z exactly; a zero of either sign is 0
+pub record Whole (x : Float) (z : ℤ) : Type 0 where
+  pub sign : Bool
+  pub size : ℕ
+  pub value : HasValue x sign size 1
+  pub is : z ≡ signed sign size
+
+abbrev pub Image : List Float → List ℤ → Type 0
+Image [] [] = Unit {0}
+Image [] (z ∷ k) = ⊥
+Image (x ∷ l) [] = ⊥
+Image (x ∷ l) (z ∷ k) = Whole x z × Image l k
+
+-- a point with whole coordinates of at most 2 ^ 26, whose products an f64 holds
+pub record WholePoint (p : Point) (e : Exact) : Type 0 where
+  pub x-whole : Whole (p .x) (e .x)
+  pub y-whole : Whole (p .y) (e .y)
+  pub x-small : natAbs (e .x) ≤ 2 ^ 26
+  pub y-small : natAbs (e .y) ≤ 2 ^ 26
+
+-- both rows that from_points writes for the point p, which goes to q, are the exact rows. proofs/Image shows it for all such points.
+abbrev pub RowsAre : Type 0
+RowsAre =
+    (p q : Point) (e f : Exact) → WholePoint p e → WholePoint q f
+    → Image (rowX p q) (exactU (e .x) (e .y) (f .x)) × Image (rowY p q) (exactV (e .x) (e .y) (f .y))

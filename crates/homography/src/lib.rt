@@ -6,8 +6,9 @@
 //     [ Y ] = [ h3 h4 h5 ] [ y ],    u = X / W,   v = Y / W.
 //     [ W ]   [ h6 h7 h8 ] [ 1 ]
 //
-// Only the ratios of the nine entries matter, so the last is set to 1, and eight are left. A point
-// whose image is known gives two equations. Multiply u = X / W and v = Y / W by W:
+// Only the ratios of the nine entries matter, so the last is set to 1, and eight are left. (A matrix
+// whose last entry is 0 takes the origin to infinity, and is not found this way.) A point whose
+// image is known gives two equations. Multiply u = X / W and v = Y / W by W:
 //
 //     h0 x + h1 y + h2 = u (h6 x + h7 y + 1)
 //     h3 x + h4 y + h5 = v (h6 x + h7 y + 1)
@@ -19,8 +20,9 @@
 //
 // Four points give eight rows: the direct linear transform with last entry 1 (Hartley and Zisserman,
 // Multiple View Geometry, 4.1). proofs/Transform shows over whole numbers that the rows hold exactly
-// when the matrix takes each point to its target. Over f64 every product and quotient is rounded,
-// and the contracts say what comes out to the bit.
+// when the matrix takes each point to its target, and proofs/Image that the rows written here are
+// those where the coordinates are whole and small. The elimination rounds at every step, and the
+// contracts say what comes out to the bit.
 mod solve;
 
 use frame::Point;
@@ -30,6 +32,7 @@ ghost use mathlib.Core.Path.{_≡_};
 ghost use Prim.Native.Nat.{_<_};
 ghost use Rattle.homography.specs.Equations as dlt;
 ghost use Rattle.homography.specs.Homography as mat;
+ghost use Rattle.homography.specs.Inner as inner;
 
 // Nine entries by rows: entry j of row i stands at i * 3 + j.
 pub type Mat3 = [f64; 9];
@@ -61,7 +64,7 @@ pub struct Solved {
 // Row r of the equations.
 fn set_row(a: &mut [f64; 72], r: usize, row: [f64; 9])
     requires { ⌜ r < 8 ⌝ }
-    ensures { λ _. ⌜ now (a .exit) ≡ dlt.rowSet r row (now (a .entry)) ⌝ }
+    ensures { λ _. ⌜ now (a .exit) ≡ inner.rowSet r row (now (a .entry)) ⌝ }
 {
     for j in 0..9 {
         let i = r * 9 + j;
@@ -72,7 +75,7 @@ fn set_row(a: &mut [f64; 72], r: usize, row: [f64; 9])
 // Both rows of the point i, which goes from p to q.
 fn set_point(a: &mut [f64; 72], i: usize, p: Point, q: Point)
     requires { ⌜ i < 4 ⌝ }
-    ensures { λ _. ⌜ now (a .exit) ≡ dlt.pointSet i p q (now (a .entry)) ⌝ }
+    ensures { λ _. ⌜ now (a .exit) ≡ inner.pointSet i p q (now (a .entry)) ⌝ }
 {
     let x = p.x;
     let y = p.y;

@@ -2,7 +2,8 @@
 // the right-hand side. Entry j of row r stands at r * 9 + j.
 ghost use mathlib.Core.Path.{_≡_};
 ghost use Prim.Native.Nat.{_<_};
-ghost use Rattle.homography.specs.Equations.{pivotOf, swapped, divided, reduced, cleared, solvable, unknowns, lastColumn};
+ghost use Rattle.homography.specs.Equations.{pivotOf, swapped, divided, reduced, cleared, solvable, lastColumn};
+ghost use Rattle.homography.specs.Inner.{unknowns};
 
 // The row, from col down, whose entry in the column has the largest absolute value; the earlier of
 // equals. A NaN is neither larger nor smaller, so it stays where it stands first and is else passed by.
@@ -35,7 +36,8 @@ fn swap_rows(a: &mut [f64; 72], p: usize, q: usize)
     }
 }
 
-// Row r is divided by d, from the column col on: what stands before it is 0 already.
+// Row r is divided by d, from the column col on: what stands before it was cleared and is not read
+// again.
 fn divide_row(a: &mut [f64; 72], r: usize, col: usize, d: f64)
     requires { ⌜ (r < 8) × (col < 8) ⌝ }
     ensures { λ _. ⌜ now (a .exit) ≡ divided (now (a .entry)) r col d ⌝ }

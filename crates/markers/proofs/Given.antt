@@ -8,7 +8,8 @@ use Rattle.frame.specs.declared.FrameSpec.{FrameSpec}
 use Rattle.frame.specs.declared.Verdict.the-variants as D
 use Rattle.frame.proofs.Given.{verdict-refused, verdict-accepted}
 use Rattle.markers.specs.Stamp.{stamped}
-use Rattle.markers.specs.Doors.{stampTests, Stamping}
+use Rattle.markers.specs.Doors.{cellTests, layoutTests, stampTests, Stamping}
+use Rattle.frame.proofs.Lowest.{Rising}
 use Rattle.frame.specs.Refusals.{Check, lowestOf}
 use Rattle.frame.specs.declared.Quad.{Quad}
 use Rattle.markers.specs.Answers.{centersRefusal, centersValue, centersAs, centersFor}
@@ -42,3 +43,16 @@ module _ (img : Image) (f : FrameSpec) where
 
   pub stamping-accepted : (out : List ℕ) → lowestOf (stampTests img f) ≡ 0 → out ≡ stamped img f → Stamping img f D.Accepted out
   stamping-accepted out e p = record { given = verdict-accepted _ e; accepted = λ _. p; refused = λ z. absurd (omega arith) }
+
+-- the tests rise, so that a refusal is the lowest number by meaning
+pub cell-rising : (cell : ℕ) → Rising 0 (cellTests cell)
+unfolding cellTests
+cell-rising cell = (omega arith, tt)
+
+pub layout-rising : (f : FrameSpec) → Rising 0 (layoutTests f)
+unfolding layoutTests
+layout-rising f = (omega arith, (omega arith, tt))
+
+pub stamp-rising : (img : Image) (f : FrameSpec) → Rising 0 (stampTests img f)
+unfolding stampTests
+stamp-rising img f = (omega arith, (omega arith, (omega arith, tt)))

@@ -9,13 +9,15 @@ use lib.ListN.{length}
 use borrow.Author.Tests.{leb-true, ltb-true, le-leb, lt-ltb}
 use Rattle.base.specs.Loops.{filled}
 use Rattle.base.proofs.Plane.{length-filled}
+use Rattle.base.proofs.Pick.{pick-yes, pick-no}
 use Rattle.float.specs.Floats.{_⊕_}
 use Rattle.frame.specs.Image.{Image, image, px, byteOf, inRect, withRect}
+use Rattle.frame.specs.declared.FrameSpec.{FrameSpec}
 use Rattle.frame.specs.declared.Rgb.{Rgb}
 use Rattle.frame.proofs.Tests.{and-left, and-right, and-both, same-test}
 use Rattle.frame.proofs.Pixels.{Shows, filled-shows, shows-filled}
 use Rattle.frame.proofs.Rectangles.{Within, rect-within, within-rect, painted-length, painted-shows}
-use Rattle.markers.specs.Stamp.{Square, end, covers, painted, withSquares}
+use Rattle.markers.specs.Stamp.{Square, end, covers, painted, withSquares, squares, stamped}
 
 -- a square covers what its rectangle of pixels holds
 rectangle : (s : Square) (x y : ℕ) → inRect (end (s .x)) (end (s .y)) (end (s .x ⊕ s .side) - end (s .x)) (end (s .y ⊕ s .side) - end (s .y)) x y ≡ covers s x y
@@ -45,6 +47,10 @@ painted-append [] k x y c = refl
 painted-append (s ∷ l) k x y c = painted-append l k x y (cond (covers s x y) (s .colour) c)
 
 module _ (w h : ℕ) where
+  -- what `fill` paints
+  abbrev pub rectOf : Square → List ℕ → List ℕ
+  rectOf s b = withRect (image w h b) (end (s .x)) (end (s .y)) (end (s .x ⊕ s .side) - end (s .x)) (end (s .y ⊕ s .side) - end (s .y)) (s .colour)
+
   pub length-squares : (l : List Square) (b : List ℕ) → length (withSquares l (image w h b)) ≡ length b
   unfolding withSquares
   length-squares l b = length-filled _ b (3 * w * h)
@@ -57,9 +63,9 @@ module _ (w h : ℕ) where
   unfolding withSquares
   show-squares l b d p q s = shows-filled w h _ b d p q s
 
-  -- what `fill` paints is one square
+  -- it is one square
   pub one-square : (s : Square) (b : List ℕ) → length b ≡ 3 * w * h
-      → withRect (image w h b) (end (s .x)) (end (s .y)) (end (s .x ⊕ s .side) - end (s .x)) (end (s .y ⊕ s .side) - end (s .y)) (s .colour) ≡ withSquares (s ∷ []) (image w h b)
+      → rectOf s b ≡ withSquares (s ∷ []) (image w h b)
   unfolding painted
   one-square s b e =
       show-squares (s ∷ []) b _ e (painted-length w h b _ _ _ _ (s .colour) ∙ e)
@@ -80,7 +86,42 @@ module _ (w h : ℕ) where
 
   -- .. or one square
   pub square-over : (l : List Square) (s : Square) (b d : List ℕ) {r : List ℕ} → length b ≡ 3 * w * h → d ≡ withSquares l (image w h b)
-      → r ≡ withRect (image w h d) (end (s .x)) (end (s .y)) (end (s .x ⊕ s .side) - end (s .x)) (end (s .y ⊕ s .side) - end (s .y)) (s .colour)
+      → r ≡ rectOf s d
       → r ≡ withSquares (l ++ (s ∷ [])) (image w h b)
   square-over l s b d e p q =
       squares-over l (s ∷ []) b d e p (q ∙ one-square s d (ap length p ∙ length-squares l b ∙ e))
+
+  -- the four fills of a marker
+  pub four-squares : (s₁ s₂ s₃ s₄ : Square) (b b₁ b₂ b₃ b₄ : List ℕ) → length b ≡ 3 * w * h
+      → b₁ ≡ rectOf s₁ b → b₂ ≡ rectOf s₂ b₁ → b₃ ≡ rectOf s₃ b₂ → b₄ ≡ rectOf s₄ b₃ → b₄ ≡ withSquares (s₁ ∷ s₂ ∷ s₃ ∷ s₄ ∷ []) (image w h b)
+  four-squares s₁ s₂ s₃ s₄ b b₁ b₂ b₃ b₄ e f₁ f₂ f₃ f₄ =
+      square-over (s₁ ∷ s₂ ∷ s₃ ∷ []) s₄ b b₃ e
+      (square-over (s₁ ∷ s₂ ∷ []) s₃ b b₂ e (square-over (s₁ ∷ []) s₂ b b₁ e (f₁ ∙ one-square s₁ b e) f₂) f₃)
+      f₄
+
+  -- .. and of four markers
+  pub four-lists : (l₁ l₂ l₃ l₄ : List Square) (b b₁ b₂ b₃ b₄ : List ℕ) → length b ≡ 3 * w * h
+      → b₁ ≡ withSquares l₁ (image w h b) → b₂ ≡ withSquares l₂ (image w h b₁) → b₃ ≡ withSquares l₃ (image w h b₂) → b₄ ≡ withSquares l₄ (image w h b₃)
+      → b₄ ≡ withSquares (l₁ ++ l₂ ++ l₃ ++ l₄) (image w h b)
+  four-lists l₁ l₂ l₃ l₄ b b₁ b₂ b₃ b₄ e f₁ f₂ f₃ f₄ =
+      squares-over (l₁ ++ l₂ ++ l₃) l₄ b b₃ e (squares-over (l₁ ++ l₂) l₃ b b₂ e (squares-over l₁ l₂ b b₁ e f₁ f₂) f₃) f₄
+
+  -- what stamping shows: in each pixel the colour of the last square that covers it, else what it was
+  pub stamped-shows : (b : List ℕ) (f : FrameSpec) → length b ≡ 3 * w * h → Shows w h (stamped (image w h b) f) (λ x y. painted (squares f) x y (px (image w h b) x y))
+  unfolding stamped
+  stamped-shows b f e = squares-show (squares f) b e
+
+-- a square that covers a pixel gives its colour, where none after it covers it; where none covers it, the pixel keeps its own
+abbrev pub NoneCover : List Square → ℕ → ℕ → Type 0
+NoneCover [] x y = Unit {0}
+NoneCover (s ∷ l) x y = (covers s x y ≡ false) × NoneCover l x y
+
+pub painted-none : (l : List Square) (x y : ℕ) (c : Rgb) → NoneCover l x y → painted l x y c ≡ c
+unfolding painted
+painted-none [] x y c n = refl
+painted-none (s ∷ l) x y c n = painted-none l x y (cond (covers s x y) (s .colour) c) (n .1) ∙ sym (pick-no (covers s x y) (s .colour) c (n .0))
+
+pub painted-last : (l k : List Square) (s : Square) (x y : ℕ) (c : Rgb) → covers s x y ≡ true → NoneCover k x y → painted (l ++ (s ∷ k)) x y c ≡ s .colour
+unfolding painted
+painted-last [] k s x y c e n = painted-none k x y (cond (covers s x y) (s .colour) c) n ∙ sym (pick-yes (covers s x y) (s .colour) c e)
+painted-last (t ∷ l) k s x y c e n = painted-last l k s x y (cond (covers t x y) (t .colour) c) e n

@@ -9,7 +9,6 @@ use Rattle.float.specs.Floats.{_⊕_, _⊖_, _⊗_, _⊘_, f64, roundOf, asUsiz
 use Rattle.frame.specs.Image.{Image, px, black, white, byteOf}
 use Rattle.markers.specs.Layout.{quietZone, marker, origins}
 use Rattle.frame.specs.declared.FrameSpec.{FrameSpec}
-use Rattle.frame.specs.declared.Point.{Point}
 use Rattle.frame.specs.declared.Quad.{Quad}
 use Rattle.frame.specs.declared.Rgb.{Rgb}
 
@@ -31,19 +30,20 @@ end t = asUsize (maxOf (roundOf t) (f64 0))
 unfoldable pub covers : Square → ℕ → ℕ → Bool
 covers s x y = leb (end (s .x)) x && ltb x (end (s .x ⊕ s .side)) && leb (end (s .y)) y && ltb y (end (s .y ⊕ s .side))
 
--- the four squares of one marker of side m and quiet zone q, in painting order: quiet zone, black ring, white ring, black dot (a unit is a sixth of m)
-unfoldable pub bullseye : Float → Float → Point → List Square
-bullseye m q o =
+-- the four squares of one marker of side m and quiet zone q whose top left corner is at (x, y), in painting order: quiet zone, black ring, white ring,
+-- black dot (a unit is a sixth of m)
+unfoldable pub bullseye : Float → Float → Float → Float → List Square
+bullseye m q x y =
     let u = m ⊘ f64 6 in
-    square (o .x ⊖ q) (o .y ⊖ q) (m ⊕ f64 2 ⊗ q) white
-    ∷ square (o .x) (o .y) m black
-    ∷ square (o .x ⊕ u) (o .y ⊕ u) (f64 4 ⊗ u) white
-    ∷ square (o .x ⊕ f64 2 ⊗ u) (o .y ⊕ f64 2 ⊗ u) (f64 2 ⊗ u) black
+    square (x ⊖ q) (y ⊖ q) (m ⊕ f64 2 ⊗ q) white
+    ∷ square x y m black
+    ∷ square (x ⊕ u) (y ⊕ u) (f64 4 ⊗ u) white
+    ∷ square (x ⊕ f64 2 ⊗ u) (y ⊕ f64 2 ⊗ u) (f64 2 ⊗ u) black
     ∷ []
 
 -- .. and of four markers, in their order
 unfoldable pub bullseyes : Float → Float → Quad → List Square
-bullseyes m q o = bullseye m q (o .tl) ++ bullseye m q (o .tr) ++ bullseye m q (o .br) ++ bullseye m q (o .bl)
+bullseyes m q o = bullseye m q (o .tl .x) (o .tl .y) ++ bullseye m q (o .tr .x) (o .tr .y) ++ bullseye m q (o .br .x) (o .br .y) ++ bullseye m q (o .bl .x) (o .bl .y)
 
 unfoldable pub squares : FrameSpec → List Square
 squares f = bullseyes (f64 (marker f)) (f64 (quietZone (f .cell))) (origins f)

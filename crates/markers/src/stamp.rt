@@ -1,7 +1,6 @@
 // Painting the markers: sixteen squares, a later one over an earlier one.
 use super::MARKER_UNITS;
 use frame::BLACK;
-use frame::Point;
 use frame::Quad;
 use frame::Rgb;
 use frame::WHITE;
@@ -45,42 +44,35 @@ pub fn fill(bytes: &mut [u8], w: usize, h: usize, x: f64, y: f64, width: f64, he
     );
 }
 
-// One marker of side m at o: white out to its quiet zone q, then black ring, white ring, black dot.
-fn stamp_marker(bytes: &mut [u8], w: usize, h: usize, m: f64, q: f64, o: Point)
+// One marker of side m at (x, y): white out to its quiet zone q, then black ring, white ring and
+// black dot.
+fn stamp_marker(bytes: &mut [u8], w: usize, h: usize, m: f64, q: f64, x: f64, y: f64)
     requires { ⌜ (w ≤ 4096) × (h ≤ 4096) × (length (now bytes) ≡ 3 * w * h) ⌝ }
-    ensures { λ _. ⌜ now (bytes .exit) ≡ withSquares (bullseye m q o) (image w h (now (bytes .entry))) ⌝ }
+    ensures { λ _. ⌜ now (bytes .exit) ≡ withSquares (bullseye m q x y) (image w h (now (bytes .entry))) ⌝ }
 {
     let u = m / MARKER_UNITS;
+    fill(bytes, w, h, x - q, y - q, m + 2.0 * q, m + 2.0 * q, WHITE);
+    fill(bytes, w, h, x, y, m, m, BLACK);
+    fill(bytes, w, h, x + u, y + u, 4.0 * u, 4.0 * u, WHITE);
     fill(
         bytes,
         w,
         h,
-        o.x - q,
-        o.y - q,
-        m + 2.0 * q,
-        m + 2.0 * q,
-        WHITE,
-    );
-    fill(bytes, w, h, o.x, o.y, m, m, BLACK);
-    fill(bytes, w, h, o.x + u, o.y + u, 4.0 * u, 4.0 * u, WHITE);
-    fill(
-        bytes,
-        w,
-        h,
-        o.x + 2.0 * u,
-        o.y + 2.0 * u,
+        x + 2.0 * u,
+        y + 2.0 * u,
         2.0 * u,
         2.0 * u,
         BLACK,
     );
 }
 
+// The four markers, TL, TR, BR, BL.
 pub fn stamp_markers(bytes: &mut [u8], w: usize, h: usize, m: f64, q: f64, o: Quad)
     requires { ⌜ (w ≤ 4096) × (h ≤ 4096) × (length (now bytes) ≡ 3 * w * h) ⌝ }
     ensures { λ _. ⌜ now (bytes .exit) ≡ withSquares (bullseyes m q o) (image w h (now (bytes .entry))) ⌝ }
 {
-    stamp_marker(bytes, w, h, m, q, o.tl);
-    stamp_marker(bytes, w, h, m, q, o.tr);
-    stamp_marker(bytes, w, h, m, q, o.br);
-    stamp_marker(bytes, w, h, m, q, o.bl);
+    stamp_marker(bytes, w, h, m, q, o.tl.x, o.tl.y);
+    stamp_marker(bytes, w, h, m, q, o.tr.x, o.tr.y);
+    stamp_marker(bytes, w, h, m, q, o.br.x, o.br.y);
+    stamp_marker(bytes, w, h, m, q, o.bl.x, o.bl.y);
 }

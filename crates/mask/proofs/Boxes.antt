@@ -1,10 +1,9 @@
 -- The four corners of a box, and its mean read from the integral. Assumes nothing.
-use mathlib.Core.Path.{_≡_, refl, sym, ap, _∙_}
+use mathlib.Core.Path.{_≡_, _∙_}
 use mathlib.Core.List.{List}
 use Prim.Native.Nat.{ℕ, _+_, _-_, _*_, _≤_, _<_}
 use native.Mathlib.Omega.{arith}
-use lib.Ieee.{Float, nan}
-use lib.ListN.{getD, length}
+use lib.Ieee.{Float}
 use Rattle.base.proofs.Plane.{by-row}
 use Rattle.base.proofs.Arith.{row-in, product-le}
 use Rattle.float.specs.Floats.{_⊕_, _⊖_, _⊘_, f64, narrowed}

@@ -1,12 +1,12 @@
 -- Places of the integral, and its entries. Assumes nothing.
-use mathlib.Core.Path.{_≡_, refl, sym, ap, _∙_}
+use mathlib.Core.Path.{_≡_, sym, ap, _∙_}
 use mathlib.Core.List.{List}
-use Prim.Native.Nat.{ℕ, zero, suc, _+_, _*_, _≤_, _<_}
+use Prim.Native.Nat.{ℕ, _+_, _*_, _≤_, _<_}
 use native.Mathlib.Omega.{arith}
 use native.Mathlib.Numerals.{add-one}
 use lib.Ieee.{Float, nan}
 use lib.ListN.{getD, length}
-use Rattle.base.specs.Loops.{filled, byRow}
+use Rattle.base.specs.Loops.{filled}
 use Rattle.base.proofs.Plane.{filled-at, length-filled, by-row}
 use Rattle.base.proofs.Arith.{row-in, row-end}
 use Rattle.float.specs.Floats.{_⊕_, f64}

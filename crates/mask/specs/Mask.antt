@@ -5,7 +5,7 @@ use mathlib.Core.List.{List}
 use lib.ListN.{getD}
 use lib.Ieee.{Float, nan, binary32, sub, lt}
 use Rattle.base.specs.Loops.{turns, table, byRow}
-use Rattle.float.specs.Floats.{_⊕_, _⊖_, _⊘_, f64, f32, narrowed}
+use Rattle.float.specs.Floats.{_⊕_, _⊖_, _⊘_, f64, f32, narrowed, widened}
 use Rattle.frame.specs.Image.{Image}
 use Rattle.markers.specs.Layout.{marker}
 use Rattle.sampling.specs.Luma.{lumaPlane}
@@ -13,7 +13,7 @@ use Rattle.frame.specs.declared.FrameSpec.{FrameSpec}
 
 -- "Integral and row sums are f64": the sum of the first x pixels of row y, from the left ("widening is exact")
 abbrev pub rowStep : List Float → ℕ → ℕ → ℕ → Float → Float
-rowStep luma w y x s = s ⊕ getD luma (y * w + x) nan
+rowStep luma w y x s = s ⊕ widened (getD luma (y * w + x) nan)
 
 unfoldable pub rowSum : List Float → ℕ → ℕ → ℕ → Float
 rowSum luma w y x = turns x (rowStep luma w y) (f64 0)

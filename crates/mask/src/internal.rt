@@ -12,7 +12,6 @@ ghost use Rattle.base.specs.Loops.{filled};
 ghost use Rattle.float.specs.Floats.{f64};
 ghost use Rattle.frame.specs.Image.{image};
 ghost use Rattle.frame.specs.Limits.{FrameHeld};
-ghost use Rattle.markers.specs.Layout.{marker};
 ghost use Rattle.mask.specs.Mask.{integralEntry, boxMean, isDark, darkEntry};
 ghost use Rattle.mask.specs.Mask as mask;
 ghost use Rattle.mask.specs.Planes.{entryAt, Integral, Ready, Planes};
@@ -40,13 +39,13 @@ fn integral_row(luma: &[f32], w: usize, h: usize, y: usize, integral: &mut [f64]
         let i = y * w + x;
         let up = y * s + (x + 1);
         let at = base + (x + 1);
-        row = row + std::num::f32_to_f64_with_nan(luma[i]);
+        row = row + float::widen(luma[i]);
         integral[at] = integral[up] + row;
     }
 }
 
 // The sum of the luma above and to the left of each corner of a pixel.
-pub fn integral_plane(luma: &[f32], w: usize, h: usize, integral: &mut [f64])
+fn integral_plane(luma: &[f32], w: usize, h: usize, integral: &mut [f64])
     requires { ⌜ (w ≤ 4096) × (h ≤ 4096) × (length (now luma) ≡ w * h) × ((w + 1) * (h + 1) ≤ length (now integral)) ⌝ }
     ensures { λ _. ⌜ now (integral .exit) ≡ filled (integralEntry (now (luma .entry)) w) ((w + 1) * (h + 1)) (now (integral .entry)) ⌝ }
 {
@@ -115,7 +114,7 @@ fn mask_row(
 }
 
 // The mask from the luma and its integral.
-pub fn adaptive_black_mask(
+fn adaptive_black_mask(
     luma: &[f32],
     integral: &[f64],
     w: usize,
@@ -131,19 +130,12 @@ pub fn adaptive_black_mask(
     }
 }
 
-// m = margin − 2·quiet, as `marker_layout` has it.
-fn marker_of(frame: FrameSpec) -> usize
-    requires { ⌜ FrameHeld frame ⌝ }
-    ensures { λ r. ⌜ r ≡ marker frame ⌝ }
-{
-    minus(frame.margin, 2 * (max(72, min(96, 8 * frame.cell)) / 6))
-}
-
+// m / 3, held to 8 .. a quarter of the shorter side.
 fn radius(w: usize, h: usize, frame: FrameSpec) -> usize
     requires { ⌜ (w ≤ 4096) × (h ≤ 4096) × FrameHeld frame ⌝ }
     ensures { λ r. ⌜ (r ≡ mask.radius w h frame) × (r ≤ 4096) ⌝ }
 {
-    max(8, min(min(w, h) / 4, marker_of(frame) / 3))
+    max(8, min(min(w, h) / 4, markers::internal::marker(frame) / 3))
 }
 
 // Luma, integral and mask of a capture.

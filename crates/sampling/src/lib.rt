@@ -11,10 +11,10 @@ ghost use Rattle.sampling.specs.Answers.{colourFor};
 pub mod internal;
 
 // Where a reading is taken along a side: `part` of the way from pixel `first` to pixel `next`.
-pub struct Span {
-    pub first: usize,
-    pub next: usize,
-    pub part: f64,
+struct Span {
+    first: usize,
+    next: usize,
+    part: f64,
 }
 
 // The answer of `bilinear`: a colour, or the number of a refusal.

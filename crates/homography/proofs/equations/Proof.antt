@@ -3,7 +3,7 @@ use mathlib.Core.Path.{ap, _∙_}
 use lib.Ieee.{ofBits, ofInt}
 use borrow.Author.Needs.{needs}
 use Rattle.homography.proofs.Rows.{rows-set}
-use Rattle.homography.specs.Equations.{pointSet}
+use Rattle.homography.specs.Inner.{pointSet}
 use Rattle.homography.proofs.equations.Statement.{statement}
 use Rattle.homography.proofs.equations.Tie as tie
 

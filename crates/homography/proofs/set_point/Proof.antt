@@ -2,7 +2,7 @@
 use mathlib.Core.Path.{ap, _∙_}
 use lib.Ieee.{ofBits, ofInt}
 use borrow.Author.Needs.{needs}
-use Rattle.homography.specs.Equations.{pointSet, rowSet}
+use Rattle.homography.specs.Inner.{pointSet, rowSet}
 use Rattle.homography.proofs.set_point.Statement.{statement}
 use Rattle.homography.proofs.set_point.Tie as tie
 

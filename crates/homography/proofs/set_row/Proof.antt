@@ -5,7 +5,7 @@ use native.Mathlib.Omega.{arith}
 use borrow.Author.Needs.{needs}
 use Rattle.base.proofs.Turns.{turns-begin, turns-step, turns-end}
 use Rattle.base.specs.Loops.{turns}
-use Rattle.homography.specs.Equations.{rowSet, rowAt}
+use Rattle.homography.specs.Inner.{rowSet, rowAt}
 use Rattle.homography.proofs.set_row.Statement.{statement}
 use Rattle.homography.proofs.set_row.Tie as tie
 

@@ -1,37 +1,26 @@
-use Rattle.markers.specs.Layout.{markerSize}
+-- `markers::marker_size` meets its contract. Assumes nothing.
+use mathlib.Core.Bool.{not}
+use mathlib.Core.Path.{sym, ap, _∙_}
+use borrow.Author.Tests.{not-false}
+use borrow.Author.Needs.{needs}
 use Rattle.markers.specs.Doors.{cellTests}
 use Rattle.frame.proofs.Lowest.{lowest-first, lowest-next, lowest-none}
 use Rattle.frame.proofs.Given.{number-refused, number-accepted}
 use Rattle.frame.proofs.Held.{cell-most}
 use Rattle.frame.specs.declared.Number.the-variants as N
-use mathlib.Core.Bool.{not}
-use borrow.Author.Tests.{not-true, not-false}
-use native.Mathlib.Omega.{arith}
-use Prim.Native.Nat.{ℕ, suc, _≤_, _<_, _+_, _*_, _-_}
-use mathlib.Core.Path.{_≡_, refl, sym, ap, _∙_}
-use lib.ListN.{length, getD, set, length-set}
-use borrow.Author.Needs.{needs}
 use Rattle.markers.proofs.marker_size.Statement.{statement}
 use Rattle.markers.proofs.marker_size.Tie as tie
-use Rattle.markers.proofs.marker_size.Reads as reads
-use Rattle.markers.proofs.marker_size.Lts as lts
-use Rattle.frame.proofs.internal.cell_held.Reads as cell-held-reads
-use Rattle.markers.proofs.internal.marker_size.Reads as marker-size-reads
 
--- src/lib.rt:33:9
 cell-held-requires : tie.Need-cell-held-requires
 cell-held-requires c κs = search needs
 
--- src/lib.rt:34:9
 returns : tie.Need-returns
 unfolding cellTests
 returns c = number-refused _ _ 0 (lowest-first 1 _ _ (sym (ap not (c .before .cell-held .ensures)) ∙ c .if1 .taken))
 
--- src/lib.rt:36:16
 marker-size-requires : tie.Need-marker-size-requires
 marker-size-requires c κs = cell-most _ (not-false _ (sym (ap not (c .before .cell-held .ensures)) ∙ c .if1 .left))
 
--- src/lib.rt:30:1
 returns-2 : tie.Need-returns-2
 unfolding cellTests
 returns-2 c = ap N.Is (c .marker-size .ensures) ∙ number-accepted _ _ (lowest-next 1 _ _ (sym (ap not (c .before .before .cell-held .ensures)) ∙ c .before .if1 .left) ∙ lowest-none)

@@ -1,5 +1,8 @@
-use Rattle.markers.specs.Layout.{quietZone, marker, origins, layoutOf}
-use Rattle.markers.specs.declared.internal.Markers.{Markers}
+-- `markers::stamp_fiducials` meets its contract. Assumes nothing.
+use mathlib.Core.Path.{sym, ap, _∙_}
+use native.Mathlib.Omega.{arith}
+use borrow.Author.Needs.{needs}
+use Rattle.markers.specs.Layout.{marker, origins}
 use Rattle.float.specs.Floats.{f64}
 use Rattle.frame.specs.Image.{image}
 use Rattle.frame.proofs.Lowest.{lowest-first, lowest-next, lowest-none}
@@ -9,74 +12,49 @@ use Rattle.markers.specs.Doors.{stampTests}
 use Rattle.markers.specs.Stamp.{stamped, squares, bullseyes, withSquares}
 use Rattle.markers.proofs.Given.{stamping-refused, stamping-accepted}
 use Rattle.markers.proofs.Sizes.{quiet-most, layout-none, layout-some, layout-values}
-use native.Mathlib.Omega.{arith}
-use Prim.Native.Nat.{ℕ, suc, _≤_, _<_, _+_, _*_, _-_}
-use mathlib.Core.Path.{_≡_, refl, sym, ap, _∙_}
-use lib.ListN.{length, getD, set, length-set}
-use borrow.Author.Needs.{needs}
 use Rattle.markers.proofs.stamp_fiducials.Statement.{statement}
 use Rattle.markers.proofs.stamp_fiducials.Tie as tie
-use Rattle.markers.proofs.stamp_fiducials.Reads as reads
-use Rattle.markers.proofs.stamp_fiducials.Lts as lts
-use Rattle.frame.proofs.internal.capture_wrong.Reads as capture-wrong-reads
-use Rattle.frame.proofs.internal.frame_outside.Reads as frame-outside-reads
-use Rattle.markers.proofs.internal.marker_layout.Reads as marker-layout-reads
-use Rattle.markers.proofs.internal.quiet_zone.Reads as quiet-zone-reads
-use Rattle.markers.proofs.stamp.stamp_markers.Reads as stamp-markers-reads
 
--- src/lib.rt:99:8
 frame-outside-requires : tie.Need-frame-outside-requires
 frame-outside-requires c κs = search needs
 
--- src/lib.rt:100:9
 returns : tie.Need-returns
 unfolding stampTests
 returns c = stamping-refused (image _ _ _) _ 0 (lowest-first 1 _ _ (cc))
 
--- src/lib.rt:102:8
 capture-wrong-requires : tie.Need-capture-wrong-requires
 capture-wrong-requires c κs = search needs
 
--- src/lib.rt:103:9
 same-length : tie.Need-same-length
 same-length c = search needs
 
--- src/lib.rt:103:9
 returns-2 : tie.Need-returns-2
 unfolding stampTests
 returns-2 c = stamping-refused (image _ _ _) _ 1 (lowest-next 1 _ _ (cc) ∙ lowest-first 2 _ _ (cc))
 
--- src/lib.rt:105:9
 marker-layout-requires : tie.Need-marker-layout-requires
 marker-layout-requires c κs = frame-held _ (cc)
 
--- src/lib.rt:107:35
 enum-told : tie.Need-enum-told
 enum-told c = search needs
 
--- src/lib.rt:108:30
 enum-known-layout : tie.Need-enum-known-layout
 enum-known-layout c = search needs
 
--- src/lib.rt:109:21
 quiet-zone-requires : tie.Need-quiet-zone-requires
 quiet-zone-requires c κs = frame-held _ (sym (c .before .before .before .before .before .before .before .before .frame-outside .ensures) ∙ c .before .before .before .before .before .before .before .if1 .left) .cell-most
 
--- src/lib.rt:109:21
 int-to-float-q : tie.Need-int-to-float-q
 int-to-float-q c = held64 _ (omega (arith, quiet-most (c .before .before .before .before .before .before .before .before .before .before .before .before .args .frame .cell)))
 
--- src/lib.rt:110:13
 stamp-markers-requires : tie.Need-stamp-markers-requires
 stamp-markers-requires c κs =
     let k = capture-held (image _ _ _) (sym (c .before .before .before .before .before .before .before .before .capture-wrong .ensures) ∙ c .before .before .before .before .before .before .before .if2 .left) in
     (k .w-most, k .h-most, k .bytes-held)
 
--- src/lib.rt:96:1
 same-length-2 : tie.Need-same-length-2
 same-length-2 c = search needs
 
--- src/lib.rt:96:1
 returns-3 : tie.Need-returns-3
 unfolding stampTests
 returns-3 c =
@@ -85,11 +63,9 @@ returns-3 c =
     ∙ lowest-next 2 _ _ (sym (c .before .before .before .before .capture-wrong .ensures) ∙ c .before .before .before .if2 .left)
     ∙ lowest-first 5 _ _ (layout-none _ (sym (c .before .before .marker-layout .ensures) ∙ c .enum-told .given .1)))
 
--- src/lib.rt:96:1
 same-length-3 : tie.Need-same-length-3
 same-length-3 c = search needs
 
--- src/lib.rt:96:1
 returns-4 : tie.Need-returns-4
 unfolding stampTests stamped squares
 returns-4 c =

@@ -16,11 +16,13 @@ use Rattle.blobs.proofs.internal.look_down.Tie as tie
 add-if1 : tie.Need-add-if1
 add-if1 c = search needs
 
-add-look : tie.Need-add-look
-add-look c = search needs
+below-requires : tie.Need-below-requires
+below-requires c κs = omega (arith, c .if1 .taken, c .before .before .before .before .good .0)
 
 look-requires : tie.Need-look-requires
-look-requires c κs = search needs
+look-requires c κs =
+    let a = c .before .before .before .before .before .before .before in
+    (a .pre .0, (omega (arith, c .before .before .below .ensures, c .before .before .before .if1 .taken), a .pre .1 .small))
 
 same-length : tie.Need-same-length
 same-length c = search needs
@@ -31,9 +33,11 @@ same-length-2 c = search needs
 returns : tie.Need-returns
 unfolding lookDown
 returns c =
-    let a = c .before .before .before .before .before .before .before .before .before .before .before in
-    let t = c .before .before .before .before .before .before .before .if1 .taken in
-    c .before .before .before .before .look .ensures ∙ pick-yes (ltb (a .args .p + a .args .w) (length (now (a .args .mask)))) (look (now (a .args .mask)) (a .args .p + a .args .w) (marking (now (a .args .seen)) (stackOf (now (a .args .waiting)) (a .args .top)))) (marking (now (a .args .seen)) (stackOf (now (a .args .waiting)) (a .args .top))) (lt-ltb _ _ t)
+    let a = c .before .before .before .before .before .before .before .before .before .before .before .before in
+    let t = c .before .before .before .before .before .before .before .before .if1 .taken in
+    c .before .before .before .before .look .ensures
+    ∙ ap (λ q. look (now (a .args .mask)) q (marking (now (a .args .seen)) (stackOf (now (a .args .waiting)) (a .args .top)))) (c .before .before .before .before .before .before .before .below .ensures)
+    ∙ pick-yes (ltb (a .args .p + a .args .w) (length (now (a .args .mask)))) (look (now (a .args .mask)) (a .args .p + a .args .w) (marking (now (a .args .seen)) (stackOf (now (a .args .waiting)) (a .args .top)))) (marking (now (a .args .seen)) (stackOf (now (a .args .waiting)) (a .args .top))) (lt-ltb _ _ t)
 
 returns-2 : tie.Need-returns-2
 unfolding lookDown
@@ -44,4 +48,4 @@ returns-2 c =
 
 pub look-down-spec : {M : Type 1} → statement M
 look-down-spec =
-    tie.close (tie.spec add-if1 add-look look-requires same-length same-length-2 returns returns-2)
+    tie.close (tie.spec add-if1 below-requires look-requires same-length same-length-2 returns returns-2)

@@ -1,16 +1,13 @@
-use Rattle.frame.specs.Image.{image, withRect}
-use Rattle.frame.proofs.Rectangles.{length-rect, rect-empty, rect-same, rect-step, Within}
-use borrow.Author.Needs.{needs}
+-- `frame::internal::fill_rect` meets its contract. Assumes nothing.
+use Prim.Native.Nat.{_≤_, _+_, _*_, _-_}
+use mathlib.Core.Path.{_≡_, refl, ap, _∙_}
 use native.Mathlib.Omega.{arith}
-use Prim.Native.Nat.{ℕ, suc, _≤_, _<_, _+_, _*_, _-_}
-use mathlib.Core.Path.{_≡_, refl, sym, ap, _∙_}
-use lib.ListN.{length, getD, set, length-set}
+use lib.ListN.{length}
+use borrow.Author.Needs.{needs}
+use Rattle.frame.specs.Image.{image, withRect}
+use Rattle.frame.proofs.Rectangles.{length-rect, rect-empty, rect-same, rect-step}
 use Rattle.frame.proofs.internal.fill_rect.Statement.{statement}
 use Rattle.frame.proofs.internal.fill_rect.Tie as tie
-use Rattle.frame.proofs.internal.fill_rect.Reads as reads
-use Rattle.frame.proofs.internal.fill_rect.Lts as lts
-use Rattle.frame.proofs.internal.fill_row.Reads as fill-row-reads
-use Rattle.frame.proofs.internal.min.Reads as min-reads
 
 abbrev Inv-loop : tie.InvT-loop
 Inv-loop bytes₀ w h x0 y0 width height c x1 y1 y₀ bytes y = (bytes ≡ withRect (image w h bytes₀) x0 y0 (x1 - x0) (y - y0) c) × (y0 ≤ y) × (y - y0 ≤ y1 - y0) × (length bytes ≡ length bytes₀)
@@ -18,41 +15,32 @@ Inv-loop bytes₀ w h x0 y0 width height c x1 y1 y₀ bytes y = (bytes ≡ withR
 abbrev μ-loop : tie.MeasureT-loop
 μ-loop bytes₀ w h x0 y0 width height c x1 y1 y₀ bytes y = y1 - y
 
--- src/internal.rt:147:18
 add-min : tie.Need-add-min Inv-loop μ-loop
 add-min c = search needs
 
--- src/internal.rt:147:9
 min-requires : tie.Need-min-requires Inv-loop μ-loop
 min-requires c κs = search needs
 
--- src/internal.rt:148:18
 add-min-2 : tie.Need-add-min-2 Inv-loop μ-loop
 add-min-2 c = search needs
 
--- src/internal.rt:148:9
 min-requires-2 : tie.Need-min-requires-2 Inv-loop μ-loop
 min-requires-2 c κs = search needs
 
--- src/internal.rt:149:5
 loop-holds : tie.Need-loop-holds Inv-loop μ-loop
 loop-holds c =
     let a = c .before .before .before .args in
     (rect-empty (a .w) (a .h) _ (omega arith) (a .x0) (a .y0) _ _ (a .c) (λ x y r. omega arith), omega arith, omega arith, refl)
 
--- src/internal.rt:150:9
 fill-row-requires : tie.Need-fill-row-requires Inv-loop μ-loop
 fill-row-requires c κs = search needs
 
--- src/internal.rt:149:9
 add-y : tie.Need-add-y Inv-loop μ-loop
 add-y c = search needs
 
--- src/internal.rt:149:5
 loop-less : tie.Need-loop-less Inv-loop μ-loop
 loop-less c = search needs
 
--- src/internal.rt:149:5
 loop-again : tie.Need-loop-again Inv-loop μ-loop
 loop-again c =
     let a = c .before .before .before .before .before .before .before .before .before .args in
@@ -62,11 +50,9 @@ loop-again c =
     let e = rect-step (a .w) (a .h) (a .bytes .now) fits (a .x0) (a .y0) n (l .y) (a .c) (l .bytes) (l .inv .1) (l .inv .0) in
     (c .before .before .fill-row .ensures ∙ e, omega arith, omega arith, ap length (c .before .before .fill-row .ensures ∙ e) ∙ length-rect (a .w) (a .h) (a .bytes .now) fits (a .x0) (a .y0) n (l .y + 1 - a .y0) (a .c))
 
--- src/internal.rt:143:1
 same-length : tie.Need-same-length Inv-loop μ-loop
 same-length c = c .before .loop .inv .3
 
--- src/internal.rt:143:1
 returns : tie.Need-returns Inv-loop μ-loop
 returns c =
     let a = c .before .before .before .before .before .args in

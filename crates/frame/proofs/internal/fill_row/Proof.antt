@@ -1,15 +1,13 @@
+-- `frame::internal::fill_row` meets its contract. Assumes nothing.
+use Prim.Native.Nat.{_≤_, _+_, _*_, _-_}
+use mathlib.Core.Path.{_≡_, refl, ap, _∙_}
+use native.Mathlib.Omega.{arith}
+use lib.ListN.{length, set}
+use borrow.Author.Needs.{needs}
 use Rattle.frame.specs.Image.{image, withRect}
 use Rattle.frame.proofs.Rectangles.{length-rect, rect-empty, row-step}
-use borrow.Author.Needs.{needs}
-use native.Mathlib.Omega.{arith}
-use Prim.Native.Nat.{ℕ, suc, _≤_, _<_, _+_, _*_, _-_}
-use mathlib.Core.Path.{_≡_, refl, sym, ap, _∙_}
-use lib.ListN.{length, getD, set, length-set}
 use Rattle.frame.proofs.internal.fill_row.Statement.{statement}
 use Rattle.frame.proofs.internal.fill_row.Tie as tie
-use Rattle.frame.proofs.internal.fill_row.Reads as reads
-use Rattle.frame.proofs.internal.fill_row.Lts as lts
-use Rattle.frame.proofs.internal.set.Reads as set-reads
 
 abbrev Inv-loop : tie.InvT-loop
 Inv-loop bytes₀ w h x0 x1 y c x₀ bytes x = (bytes ≡ withRect (image w h bytes₀) x0 y (x - x0) 1 c) × (x0 ≤ x) × (x - x0 ≤ x1 - x0) × (length bytes ≡ length bytes₀)
@@ -17,25 +15,20 @@ Inv-loop bytes₀ w h x0 x1 y c x₀ bytes x = (bytes ≡ withRect (image w h by
 abbrev μ-loop : tie.MeasureT-loop
 μ-loop bytes₀ w h x0 x1 y c x₀ bytes x = x1 - x
 
--- src/internal.rt:137:5
 loop-holds : tie.Need-loop-holds Inv-loop μ-loop
 loop-holds c =
     let a = c .before .args in
     (rect-empty (a .w) (a .h) _ (omega arith) (a .x0) (a .y) _ 1 (a .c) (λ x y r. omega arith), omega arith, omega arith, refl)
 
--- src/internal.rt:138:9
 set-requires : tie.Need-set-requires Inv-loop μ-loop
 set-requires c κs = search needs
 
--- src/internal.rt:137:9
 add-x : tie.Need-add-x Inv-loop μ-loop
 add-x c = search needs
 
--- src/internal.rt:137:5
 loop-less : tie.Need-loop-less Inv-loop μ-loop
 loop-less c = search needs
 
--- src/internal.rt:137:5
 loop-again : tie.Need-loop-again Inv-loop μ-loop
 loop-again c =
     let a = c .before .before .before .before .before .before .before .args in
@@ -44,11 +37,9 @@ loop-again c =
     let e = row-step (a .w) (a .h) (a .bytes .now) fits (a .x0) (a .y) (l .x) (a .c) (l .bytes) (l .inv .1) (omega arith) (omega arith) (l .inv .0) in
     (c .before .before .set .ensures ∙ e, omega arith, omega arith, ap length (c .before .before .set .ensures ∙ e) ∙ length-rect (a .w) (a .h) (a .bytes .now) fits (a .x0) (a .y) (l .x + 1 - a .x0) 1 (a .c))
 
--- src/internal.rt:133:1
 same-length : tie.Need-same-length Inv-loop μ-loop
 same-length c = c .before .loop .inv .3
 
--- src/internal.rt:133:1
 returns : tie.Need-returns Inv-loop μ-loop
 returns c =
     let a = c .before .before .before .args in

@@ -1,48 +1,35 @@
-use Rattle.frame.proofs.Pixels.{bytes-most, byte-in}
-use Rattle.frame.specs.Image.{px}
-use borrow.Author.Needs.{needs}
+-- `frame::internal::px` meets its contract. Assumes nothing.
+use mathlib.Core.Path.{refl}
 use native.Mathlib.Omega.{arith}
-use Prim.Native.Nat.{ℕ, suc, _≤_, _<_, _+_, _*_, _-_}
-use mathlib.Core.Path.{_≡_, refl, sym, ap, _∙_}
-use lib.ListN.{length, getD, set, length-set}
+use Rattle.frame.specs.Image.{px}
+use Rattle.frame.proofs.Pixels.{bytes-most, byte-in}
 use Rattle.frame.proofs.internal.px.Statement.{statement}
 use Rattle.frame.proofs.internal.px.Tie as tie
-use Rattle.frame.proofs.internal.px.Reads as reads
-use Rattle.frame.proofs.internal.px.Lts as lts
 
--- src/internal.rt:108:14
 mul-i : tie.Need-mul-i
 mul-i c = let a = c .args in omega (arith, byte-in (a .w) (a .h) (a .x) (a .y) 2 (omega arith) (omega arith) (omega arith), bytes-most (a .w) (a .h) (omega arith) (omega arith))
 
--- src/internal.rt:108:14
 add-i : tie.Need-add-i
 add-i c = let a = c .args in omega (arith, byte-in (a .w) (a .h) (a .x) (a .y) 2 (omega arith) (omega arith) (omega arith), bytes-most (a .w) (a .h) (omega arith) (omega arith))
 
--- src/internal.rt:108:13
 mul-i-2 : tie.Need-mul-i-2
 mul-i-2 c = let a = c .args in omega (arith, byte-in (a .w) (a .h) (a .x) (a .y) 2 (omega arith) (omega arith) (omega arith), bytes-most (a .w) (a .h) (omega arith) (omega arith))
 
--- src/internal.rt:110:12
 shared-slice-read-t10 : tie.Need-shared-slice-read-t10
 shared-slice-read-t10 c = let a = c .before .args in omega (arith, byte-in (a .w) (a .h) (a .x) (a .y) 2 (omega arith) (omega arith) (omega arith), bytes-most (a .w) (a .h) (omega arith) (omega arith))
 
--- src/internal.rt:111:18
 add-t7 : tie.Need-add-t7
 add-t7 c = let a = c .before .args in omega (arith, byte-in (a .w) (a .h) (a .x) (a .y) 2 (omega arith) (omega arith) (omega arith), bytes-most (a .w) (a .h) (omega arith) (omega arith))
 
--- src/internal.rt:111:12
 shared-slice-read-t12 : tie.Need-shared-slice-read-t12
 shared-slice-read-t12 c = let a = c .before .before .args in omega (arith, byte-in (a .w) (a .h) (a .x) (a .y) 2 (omega arith) (omega arith) (omega arith), bytes-most (a .w) (a .h) (omega arith) (omega arith))
 
--- src/internal.rt:112:18
 add-t8 : tie.Need-add-t8
 add-t8 c = let a = c .before .before .args in omega (arith, byte-in (a .w) (a .h) (a .x) (a .y) 2 (omega arith) (omega arith) (omega arith), bytes-most (a .w) (a .h) (omega arith) (omega arith))
 
--- src/internal.rt:112:12
 shared-slice-read-t14 : tie.Need-shared-slice-read-t14
 shared-slice-read-t14 c = let a = c .before .before .before .args in omega (arith, byte-in (a .w) (a .h) (a .x) (a .y) 2 (omega arith) (omega arith) (omega arith), bytes-most (a .w) (a .h) (omega arith) (omega arith))
 
--- src/internal.rt:104:1
 returns : tie.Need-returns
 unfolding px
 returns c = refl

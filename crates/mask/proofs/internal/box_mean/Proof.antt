@@ -1,143 +1,105 @@
+-- `mask::internal::box_mean` meets its contract. The box's four corners are entries of the integral. Assumes nothing.
+use native.Mathlib.Omega.{arith}
+use Prim.Native.Nat.{_-_}
+use borrow.Author.Needs.{needs}
 use Rattle.mask.specs.Planes.{entryAt}
 use Rattle.mask.proofs.Boxes.{Corners, corners, box-is}
-use native.Mathlib.Omega.{arith}
-use Prim.Native.Nat.{ℕ, suc, _≤_, _<_, _+_, _*_, _-_}
-use mathlib.Core.Path.{_≡_, refl, sym, ap, _∙_}
-use lib.ListN.{length, getD, set, length-set}
-use borrow.Author.Needs.{needs}
 use Rattle.mask.proofs.internal.box_mean.Statement.{statement}
 use Rattle.mask.proofs.internal.box_mean.Tie as tie
-use Rattle.mask.proofs.internal.box_mean.Reads as reads
-use Rattle.mask.proofs.internal.box_mean.Lts as lts
-use Rattle.float.proofs.narrow.Reads as narrow-reads
-use Rattle.mask.proofs.internal.minus.Reads as minus-reads
-use Rattle.sampling.proofs.internal.min.Reads as min-reads
-use Rattle.sampling.proofs.internal.to_f64.Reads as to-f64-reads
 
 box : (c : tie.After-min2) → Corners (c .before .before .before .before .before .args .w) (c .before .before .before .before .before .args .h) (c .before .before .before .minus .result) (c .before .before .min .result) (c .before .minus2 .result) (c .min2 .result)
 box c = corners _ _ _ _ _ _ (omega arith) (omega arith) (omega arith) (omega arith) (omega arith) (omega arith)
 
--- src/internal.rt:75:13
 add-s : tie.Need-add-s
 add-s c = search needs
 
--- src/internal.rt:76:9
 minus-requires : tie.Need-minus-requires
 minus-requires c κs = search needs
 
--- src/internal.rt:77:21
 add-min : tie.Need-add-min
 add-min c = search needs
 
--- src/internal.rt:77:21
 add-min-2 : tie.Need-add-min-2
 add-min-2 c = search needs
 
--- src/internal.rt:77:9
 min-requires : tie.Need-min-requires
 min-requires c κs = search needs
 
--- src/internal.rt:78:9
 minus-requires-2 : tie.Need-minus-requires-2
 minus-requires-2 c κs = search needs
 
--- src/internal.rt:79:21
 add-min-3 : tie.Need-add-min-3
 add-min-3 c = search needs
 
--- src/internal.rt:79:21
 add-min-4 : tie.Need-add-min-4
 add-min-4 c = search needs
 
--- src/internal.rt:79:9
 min-requires-2 : tie.Need-min-requires-2
 min-requires-2 c κs = search needs
 
--- src/internal.rt:80:13
 mul-a : tie.Need-mul-a
 mul-a c = let k = box (c) in omega arith
 
--- src/internal.rt:80:13
 add-a : tie.Need-add-a
 add-a c = let k = box (c) in omega arith
 
--- src/internal.rt:81:13
 mul-b : tie.Need-mul-b
 mul-b c = let k = box (c) in omega arith
 
--- src/internal.rt:81:13
 add-b : tie.Need-add-b
 add-b c = let k = box (c) in omega arith
 
--- src/internal.rt:82:13
 mul-c : tie.Need-mul-c
 mul-c c = let k = box (c) in omega arith
 
--- src/internal.rt:82:13
 add-c : tie.Need-add-c
 add-c c = let k = box (c) in omega arith
 
--- src/internal.rt:83:13
 mul-d : tie.Need-mul-d
 mul-d c = let k = box (c) in omega arith
 
--- src/internal.rt:83:13
 add-d : tie.Need-add-d
 add-d c = let k = box (c) in omega arith
 
--- src/internal.rt:84:15
 mul-sum : tie.Need-mul-sum
 mul-sum c = let k = box (c) in omega arith
 
--- src/internal.rt:84:15
 shared-slice-read-sum : tie.Need-shared-slice-read-sum
 shared-slice-read-sum c = let k = box (c .before) in omega arith
 
--- src/internal.rt:84:29
 mul-sum-2 : tie.Need-mul-sum-2
 mul-sum-2 c = let k = box (c .before) in omega arith
 
--- src/internal.rt:84:29
 shared-slice-read-sum-2 : tie.Need-shared-slice-read-sum-2
 shared-slice-read-sum-2 c = let k = box (c .before .before) in omega arith
 
--- src/internal.rt:84:43
 mul-sum-3 : tie.Need-mul-sum-3
 mul-sum-3 c = let k = box (c .before .before) in omega arith
 
--- src/internal.rt:84:43
 shared-slice-read-sum-3 : tie.Need-shared-slice-read-sum-3
 shared-slice-read-sum-3 c = let k = box (c .before .before .before) in omega arith
 
--- src/internal.rt:84:57
 mul-sum-4 : tie.Need-mul-sum-4
 mul-sum-4 c = let k = box (c .before .before .before) in omega arith
 
--- src/internal.rt:84:57
 shared-slice-read-sum-4 : tie.Need-shared-slice-read-sum-4
 shared-slice-read-sum-4 c = let k = box (c .before .before .before .before) in omega arith
 
--- src/internal.rt:85:33
 sub-to-f64 : tie.Need-sub-to-f64
 sub-to-f64 c = search needs
 
--- src/internal.rt:85:45
 sub-to-f64-2 : tie.Need-sub-to-f64-2
 sub-to-f64-2 c = search needs
 
--- src/internal.rt:85:32
 mul-to-f64 : tie.Need-mul-to-f64
 mul-to-f64 c = let k = box (c .before .before .before .before) in omega arith
 
--- src/internal.rt:85:25
 to-f64-requires : tie.Need-to-f64-requires
 to-f64-requires c κs = let k = box (c .before .before .before .before) in omega arith
 
--- src/internal.rt:85:5
 narrow-requires : tie.Need-narrow-requires
 narrow-requires c κs = search needs
 
--- src/internal.rt:71:1
 returns : tie.Need-returns
 returns c =
     let k = c .before .before .before .before .before .before in

@@ -1,19 +1,17 @@
+-- `mask::internal::dark` meets its contract. Assumes nothing.
 use lib.Ieee.{nan, binary32, sub, lt, ofBits, ofInt}
+use native.Mathlib.Omega.{arith}
+use Prim.Native.Nat.{_+_, _*_, _-_}
+use mathlib.Core.Path.{_≡_, sym, ap, _∙_}
+use lib.ListN.{getD}
+use borrow.Author.Needs.{needs}
 use Rattle.base.proofs.Pick.{pick-yes, pick-no}
 use Rattle.float.specs.Floats.{f32}
 use Rattle.mask.specs.Mask.{isDark}
 use Rattle.mask.proofs.Entries.{Place, place}
 use Rattle.mask.proofs.Boxes.{mean-is}
-use native.Mathlib.Omega.{arith}
-use Prim.Native.Nat.{ℕ, suc, _≤_, _<_, _+_, _*_, _-_}
-use mathlib.Core.Path.{_≡_, refl, sym, ap, _∙_}
-use lib.ListN.{length, getD, set, length-set}
-use borrow.Author.Needs.{needs}
 use Rattle.mask.proofs.internal.dark.Statement.{statement}
 use Rattle.mask.proofs.internal.dark.Tie as tie
-use Rattle.mask.proofs.internal.dark.Reads as reads
-use Rattle.mask.proofs.internal.dark.Lts as lts
-use Rattle.mask.proofs.internal.box_mean.Reads as box-mean-reads
 
 here : (c : tie.After-shared-slice-known2) → Place (c .before .before .args .x) (c .before .before .args .y) (c .before .before .args .w) (c .before .before .args .h)
 here c = place _ _ _ _ (omega arith) (omega arith)
@@ -27,32 +25,25 @@ same c =
     ap (λ m. lt (getD (a .luma .now) (a .y * a .w + a .x) nan) (sub binary32 m (f32 8)))
     (c .box-mean .ensures ∙ mean-is (a .luma .now) (a .integral .now) (a .w) (a .h) (c .before .before .before .pre .7) (a .radius) (a .x) (a .y) (omega arith) (omega arith))
 
--- src/internal.rt:93:13
 mul-i : tie.Need-mul-i
 mul-i c = let k = here c in omega arith
 
--- src/internal.rt:93:13
 add-i : tie.Need-add-i
 add-i c = let k = here c in omega arith
 
--- src/internal.rt:94:9
 box-mean-requires : tie.Need-box-mean-requires
 box-mean-requires c κs = search needs
 
--- src/internal.rt:95:8
 mul-if1 : tie.Need-mul-if1
 mul-if1 c = let k = here (c .before) in omega arith
 
--- src/internal.rt:95:8
 shared-slice-read-if1 : tie.Need-shared-slice-read-if1
 shared-slice-read-if1 c = let k = here (c .before .before) in omega arith
 
--- src/internal.rt:89:1
 returns : tie.Need-returns
 unfolding ofBits ofInt
 returns c = pick-yes _ _ _ (sym (same (c .before .before)) ∙ c .if1 .taken)
 
--- src/internal.rt:89:1
 returns-2 : tie.Need-returns-2
 unfolding ofBits ofInt
 returns-2 c = pick-no _ _ _ (sym (same (c .before .before)) ∙ c .if1 .left)

@@ -1,23 +1,20 @@
-use Rattle.float.specs.Floats.{f64}
-use Rattle.base.proofs.Arith.{row-in}
+-- `mask::internal::integral_plane` meets its contract. The loop's invariant: the integral is filled up to its row y + 1. Assumes nothing.
 use mathlib.Core.List.{List}
 use lib.Ieee.{Float}
-use Rattle.base.specs.Loops.{filled}
-use Rattle.base.proofs.Plane.{filled-end, filled-cong}
 use native.Mathlib.Nat.{mul-comm}
-use Rattle.mask.specs.Mask.{integralEntry}
-use Rattle.mask.proofs.Entries.{top}
 use borrow.Author.Needs.{needs}
 use native.Mathlib.Omega.{arith}
-use Prim.Native.Nat.{ℕ, suc, _≤_, _<_, _+_, _*_, _-_}
-use mathlib.Core.Path.{_≡_, refl, sym, ap, _∙_}
-use lib.ListN.{length, getD, set, length-set}
+use Prim.Native.Nat.{_≤_, _+_, _*_, _-_}
+use mathlib.Core.Path.{_≡_, refl, ap, _∙_}
+use lib.ListN.{length}
+use Rattle.float.specs.Floats.{f64}
+use Rattle.base.proofs.Arith.{row-in}
+use Rattle.base.specs.Loops.{filled}
+use Rattle.base.proofs.Plane.{filled-end, filled-cong}
+use Rattle.mask.specs.Mask.{integralEntry}
+use Rattle.mask.proofs.Entries.{top}
 use Rattle.mask.proofs.internal.integral_plane.Statement.{statement}
 use Rattle.mask.proofs.internal.integral_plane.Tie as tie
-use Rattle.mask.proofs.internal.integral_plane.Reads as reads
-use Rattle.mask.proofs.internal.integral_plane.Lts as lts
-use Rattle.mask.proofs.internal.first_row.Reads as first-row-reads
-use Rattle.mask.proofs.internal.integral_row.Reads as integral-row-reads
 
 abbrev Inv-loop : tie.InvT-loop
 Inv-loop luma w h integral₀ y₀ integral y =
@@ -31,46 +28,37 @@ abbrev μ-loop : tie.MeasureT-loop
 length-is : (c : tie.At-loop Inv-loop μ-loop) → length (c .loop .integral) ≡ length (c .before .before .before .before .before .before .before .args .integral .now)
 length-is c = c .loop .inv .2 ∙ c .before .before .before .first-row .kept .0
 
--- src/internal.rt:52:25
 add-first-row : tie.Need-add-first-row Inv-loop μ-loop
 add-first-row c = search needs
 
--- src/internal.rt:52:5
 first-row-requires : tie.Need-first-row-requires Inv-loop μ-loop
 first-row-requires c κs =
     let a = c .before .before .before .args in
     omega (arith, row-in (a .w) 0 (a .w + 1) (a .h + 1) (omega arith) (omega arith))
 
--- src/internal.rt:53:5
 loop-holds : tie.Need-loop-holds Inv-loop μ-loop
 loop-holds c = (λ l e. filled-end _ _ _ _ e (omega arith), omega arith, refl)
 
--- src/internal.rt:54:9
 integral-row-requires : tie.Need-integral-row-requires Inv-loop μ-loop
 integral-row-requires c κs =
     let p = c .before .before .before .before .before .before .before .before .before .pre in
     let e = length-is (c .before .before) in
     (p .0, p .1, omega arith, p .2, omega arith)
 
--- src/internal.rt:53:9
 add-y : tie.Need-add-y Inv-loop μ-loop
 add-y c = search needs
 
--- src/internal.rt:53:5
 loop-less : tie.Need-loop-less Inv-loop μ-loop
 loop-less c = search needs
 
--- src/internal.rt:53:5
 loop-again : tie.Need-loop-again Inv-loop μ-loop
 loop-again c =
     let k = c .before .before .before .before .before .loop in
     (λ l e. c .before .before .integral-row .ensures l (k .inv .0 l e), omega arith, c .before .before .integral-row .kept .1 .1 .1 .1 .0 ∙ k .inv .2)
 
--- src/internal.rt:48:1
 same-length : tie.Need-same-length Inv-loop μ-loop
 same-length c = length-is (c .before)
 
--- src/internal.rt:48:1
 returns : tie.Need-returns Inv-loop μ-loop
 returns c =
     let a = c .before .before .before .before .before .before .before .before .args in

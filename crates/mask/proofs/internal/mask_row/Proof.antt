@@ -1,20 +1,18 @@
+-- `mask::internal::mask_row` meets its contract. The loop's invariant: the mask is filled up to column x of the row. Assumes nothing.
 use mathlib.Core.List.{List}
 use mathlib.Core.Bool.{cond}
+use borrow.Author.Needs.{needs}
+use native.Mathlib.Omega.{arith}
+use Prim.Native.Nat.{ℕ, _≤_, _+_, _*_, _-_}
+use mathlib.Core.Path.{_≡_, refl, sym, _∙_}
+use lib.ListN.{length, length-set}
 use Rattle.base.specs.Loops.{filled}
 use Rattle.base.proofs.Plane.{filled-step, filled-end, by-row}
 use Rattle.base.proofs.Arith.{row-end}
 use Rattle.mask.specs.Mask.{isDark, darkEntry}
 use Rattle.mask.proofs.Entries.{Place, place}
-use borrow.Author.Needs.{needs}
-use native.Mathlib.Omega.{arith}
-use Prim.Native.Nat.{ℕ, suc, _≤_, _<_, _+_, _*_, _-_}
-use mathlib.Core.Path.{_≡_, refl, sym, ap, _∙_}
-use lib.ListN.{length, getD, set, length-set}
 use Rattle.mask.proofs.internal.mask_row.Statement.{statement}
 use Rattle.mask.proofs.internal.mask_row.Tie as tie
-use Rattle.mask.proofs.internal.mask_row.Reads as reads
-use Rattle.mask.proofs.internal.mask_row.Lts as lts
-use Rattle.mask.proofs.internal.dark.Reads as dark-reads
 
 abbrev Inv-loop : tie.InvT-loop
 Inv-loop luma integral w h radius y mask₀ x₀ mask x =
@@ -28,37 +26,29 @@ abbrev μ-loop : tie.MeasureT-loop
 here : (c : tie.In-loop Inv-loop μ-loop) → Place (c .before .loop .x) (c .before .before .before .before .before .args .y) (c .before .before .before .before .before .args .w) (c .before .before .before .before .before .args .h)
 here c = place _ _ _ _ (omega arith) (omega arith)
 
--- src/internal.rt:102:5
 loop-holds : tie.Need-loop-holds Inv-loop μ-loop
 loop-holds c = (λ l e. filled-end _ _ _ _ e (omega arith), omega arith, refl)
 
--- src/internal.rt:103:17
 mul-i : tie.Need-mul-i Inv-loop μ-loop
 mul-i c = let k = here c in omega arith
 
--- src/internal.rt:103:17
 add-i : tie.Need-add-i Inv-loop μ-loop
 add-i c = let k = here c in omega arith
 
--- src/internal.rt:104:19
 dark-requires : tie.Need-dark-requires Inv-loop μ-loop
 dark-requires c κs =
     let p = c .before .before .before .before .before .pre in
     (p .0, p .1, p .2, omega arith, p .3, p .4, p .5, p .7)
 
--- src/internal.rt:104:9
 slice-write-mask : tie.Need-slice-write-mask Inv-loop μ-loop
 slice-write-mask c = let k = here (c .before) in omega arith
 
--- src/internal.rt:102:9
 add-x : tie.Need-add-x Inv-loop μ-loop
 add-x c = search needs
 
--- src/internal.rt:102:5
 loop-less : tie.Need-loop-less Inv-loop μ-loop
 loop-less c = search needs
 
--- src/internal.rt:102:5
 loop-again : tie.Need-loop-again Inv-loop μ-loop
 loop-again c =
     let k = c .before .before .loop in
@@ -68,11 +58,9 @@ loop-again c =
       simp length-set (k .inv .2),
     )
 
--- src/internal.rt:98:1
 same-length : tie.Need-same-length Inv-loop μ-loop
 same-length c = c .before .loop .inv .2
 
--- src/internal.rt:98:1
 returns : tie.Need-returns Inv-loop μ-loop
 returns c =
     let k = c .before .loop in

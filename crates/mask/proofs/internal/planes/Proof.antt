@@ -1,5 +1,10 @@
+-- `mask::internal::planes` meets its contract. The start of the luma area is the picture's luma plane, so integral and mask are that plane's. Assumes nothing.
 use lib.Ieee.{nan}
-use lib.ListN.{take}
+use lib.ListN.{take, length, getD}
+use native.Mathlib.Omega.{arith}
+use Prim.Native.Nat.{_+_, _*_, _-_}
+use mathlib.Core.Path.{_≡_, sym, ap, _∙_}
+use borrow.Author.Needs.{needs}
 use Rattle.base.specs.Loops.{filled}
 use Rattle.base.proofs.Plane.{filled-at}
 use Rattle.base.proofs.Table.{length-table, take-filled}
@@ -7,19 +12,8 @@ use Rattle.frame.specs.Image.{Image, image}
 use Rattle.sampling.specs.Luma.{lumaAt, lumaPlane}
 use Rattle.mask.specs.Mask.{integralEntry, darkEntry}
 use Rattle.mask.specs.Planes.{Integral}
-use native.Mathlib.Omega.{arith}
-use Prim.Native.Nat.{ℕ, suc, _≤_, _<_, _+_, _*_, _-_}
-use mathlib.Core.Path.{_≡_, refl, sym, ap, _∙_}
-use lib.ListN.{length, getD, set, length-set}
-use borrow.Author.Needs.{needs}
 use Rattle.mask.proofs.internal.planes.Statement.{statement}
 use Rattle.mask.proofs.internal.planes.Tie as tie
-use Rattle.mask.proofs.internal.planes.Reads as reads
-use Rattle.mask.proofs.internal.planes.Lts as lts
-use Rattle.mask.proofs.internal.adaptive_black_mask.Reads as adaptive-black-mask-reads
-use Rattle.mask.proofs.internal.integral_plane.Reads as integral-plane-reads
-use Rattle.mask.proofs.internal.radius.Reads as radius-reads
-use Rattle.sampling.proofs.internal.luma_plane.Reads as luma-plane-reads
 
 -- the luma that the later functions are handed
 plane-is : (c : tie.After-luma-plane) →
@@ -46,58 +40,45 @@ summed c k h =
     ap (λ l. getD l k nan) (c .integral-plane .ensures)
     ∙ filled-at _ (a .integral .now) ((a .w + 1) * (a .h + 1)) k nan h (c .before .before .before .before .before .before .before .before .before .before .before .pre .integral-room)
 
--- src/internal.rt:162:13
 mul-n : tie.Need-mul-n
 mul-n c = search needs
 
--- src/internal.rt:163:5
 luma-plane-requires : tie.Need-luma-plane-requires
 luma-plane-requires c κs = search needs
 
--- src/internal.rt:164:20
 slice-reshare-prefix-integral-plane : tie.Need-slice-reshare-prefix-integral-plane
 slice-reshare-prefix-integral-plane c = search needs
 
--- src/internal.rt:164:20
 slice-aggregate-integral-plane : tie.Need-slice-aggregate-integral-plane
 slice-aggregate-integral-plane c = sym (length-is (c .before .before .before))
 
--- src/internal.rt:164:5
 integral-plane-requires : tie.Need-integral-plane-requires
 integral-plane-requires c κs = (omega arith, omega arith, length-is (c .before .before .before .before), omega arith)
 
--- src/internal.rt:165:9
 radius-requires : tie.Need-radius-requires
 radius-requires c κs = search needs
 
--- src/internal.rt:166:25
 slice-reshare-prefix-adaptive-black-mask : tie.Need-slice-reshare-prefix-adaptive-black-mask
 slice-reshare-prefix-adaptive-black-mask c = search needs
 
--- src/internal.rt:166:25
 slice-aggregate-adaptive-black-mask : tie.Need-slice-aggregate-adaptive-black-mask
 slice-aggregate-adaptive-black-mask c = sym (length-is (c .before .before .before .before .before .before .before .before .before))
 
--- src/internal.rt:166:5
 adaptive-black-mask-requires : tie.Need-adaptive-black-mask-requires
 adaptive-black-mask-requires c κs =
     let k = c .before .before .before .before .before .before in
     let p = c .before .before .before .before .before .before .before .before .before .before .before .before .before .before .before .before .before .pre in
     (p .capture .w-most, p .capture .h-most, c .before .before .before .radius .ensures .1, length-is (c .before .before .before .before .before .before .before .before .before .before .before), omega (arith, k .integral-plane .kept .1 .1 .1 .0, p .integral-room), p .mask-room, summed k)
 
--- src/internal.rt:150:1
 same-length : tie.Need-same-length
 same-length c = search needs
 
--- src/internal.rt:150:1
 same-length-2 : tie.Need-same-length-2
 same-length-2 c = search needs
 
--- src/internal.rt:150:1
 same-length-3 : tie.Need-same-length-3
 same-length-3 c = search needs
 
--- src/internal.rt:150:1
 returns : tie.Need-returns
 returns c =
     let a = c .before .before .before .before .before .before .before .before .before .before .before .before .before .before .before .before .before .before .before .before .args in

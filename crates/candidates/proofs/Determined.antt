@@ -1,0 +1,33 @@
+-- What a look finds is decided by the capture and the frame: "no answer depends on prior work-area contents". Assumes nothing.
+use Prim.Native.Nat.{ℕ, _≤_, _<_}
+use mathlib.Core.Path.{_≡_, refl, sym, ap, subst, _∙_}
+use mathlib.Core.List.{List}
+use lib.Ieee.{Float}
+use lib.ListN.{getD}
+use Rattle.frame.specs.Image.{Image}
+use Rattle.frame.specs.declared.FrameSpec.{FrameSpec}
+use Rattle.sampling.specs.Luma.{lumaPlane}
+use Rattle.mask.specs.Mask.{maskPlane}
+use Rattle.blobs.specs.Patches.{patchAt}
+use Rattle.candidates.specs.Areas.{Areas}
+use Rattle.candidates.specs.Doors.{Looked}
+use Rattle.candidates.specs.Ring.{candidateAt, CandidateList}
+use Rattle.candidates.proofs.Unique.{list-number, list-records, candidates-number, candidates-records}
+
+module _ (img : Image) (f : FrameSpec) (a b a′ b′ : Areas) (n k deep n′ k′ deep′ : ℕ) (h : Looked img f a b n k deep) (h′ : Looked img f a′ b′ n′ k′ deep′) where
+  pub same-patches : n ≡ n′
+  same-patches = list-number (maskPlane img f) (img .w) (h .patches) (h′ .patches)
+
+  pub same-patch : (j : ℕ) → j < n → patchAt (b .patches) j ≡ patchAt (b′ .patches) j
+  same-patch j l = list-records (maskPlane img f) (img .w) (h .patches) (h′ .patches) j l
+
+  others : CandidateList (maskPlane img f) (lumaPlane img) (img .w) (img .h) (patchAt (b′ .patches)) n (a′ .candidates) (a′ .«blob_index») (b′ .candidates) (b′ .«blob_index») k′
+  others =
+      subst (λ z. CandidateList (maskPlane img f) (lumaPlane img) (img .w) (img .h) (patchAt (b′ .patches)) z (a′ .candidates) (a′ .«blob_index») (b′ .candidates) (b′ .«blob_index») k′) (sym same-patches) (h′ .candidates)
+
+  pub same-candidates : k ≡ k′
+  same-candidates = candidates-number (maskPlane img f) (lumaPlane img) (img .w) (img .h) (h .candidates) others same-patch
+
+  -- centre, score, size and place
+  pub same-candidate : (i : ℕ) → i < k → candidateAt (b .candidates) (b .«blob_index») i ≡ candidateAt (b′ .candidates) (b′ .«blob_index») i
+  same-candidate i l = candidates-records (maskPlane img f) (lumaPlane img) (img .w) (img .h) (h .candidates) others same-patch i l

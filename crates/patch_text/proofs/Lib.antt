@@ -1,0 +1,4 @@
+-- Laws behind the functions' proofs.
+pub mod Texts
+pub mod Numbers
+pub mod Printed

@@ -1,0 +1,393 @@
+// Vectors for the program crates grid_examples (fit_for, grid_score) and fit_examples (fit_geometry): the original's
+// own answers, as bit patterns. In host/vectors: `cargo run --release --offline --bin fit` writes stdin and stdout of
+// both again.
+//
+// grid_examples: stdin is records of 24 words of 64 bits, lowest byte first: what is asked (0 fit_for, 1 grid_score),
+// w, h, the frame's width, height, cell and margin, and then for fit_for the four points and k, for grid_score the
+// matrix, the lens (k, cx, cy, norm), how many bytes of the capture are lent and how many means. A record that begins
+// with 2 has in its second word how many bytes stand behind it: the capture from then on. stdout has the answers' words, one a line, in hexadecimal: the refusal's number, or 0
+// and, for fit_for, matrix and lens; for grid_score the original's float, then 0 for a score, 1 for outside with the
+// cell, 2 for too few cells.
+//
+// fit_examples: stdin is records of 8 words (w, h, the frame, the capture's length in bytes, the length of the area of
+// means) with the capture behind them. stdout has the refusal's number; after 7 the numbers of patches and candidates;
+// after 0 those, then the four places in the patch list, matrix, lens, the kept trial's score, and the counts of
+// trials and of homographies. Every NaN is written as one. The original has no refusal numbers: they are document 01's.
+use lpcorepub::frame::FrameSpec;
+use lpcorepub::geometry::{
+    adaptive_black_mask, bilinear, detect_fiducials, fiducial_candidates, fit_for, fit_geometry, grid_score, label_blobs,
+    luma_plane, marker_layout, stamp_fiducials, GeometryFit, Homography, Radial, K_MAX, K_STAGES, TAPS,
+};
+use lpcorepub::image::RgbImage;
+use std::fs;
+
+struct Random(u64);
+
+impl Random {
+    // splitmix64
+    fn next(&mut self) -> u64 {
+        self.0 = self.0.wrapping_add(0x9e37_79b9_7f4a_7c15);
+        let mut z = self.0;
+        z = (z ^ (z >> 30)).wrapping_mul(0xbf58_476d_1ce4_e5b9);
+        z = (z ^ (z >> 27)).wrapping_mul(0x94d0_49bb_1331_11eb);
+        z ^ (z >> 31)
+    }
+
+    fn between(&mut self, lo: f64, hi: f64) -> f64 {
+        lo + (hi - lo) * ((self.next() >> 11) as f64 / (1u64 << 53) as f64)
+    }
+}
+
+#[derive(Default)]
+struct Vectors {
+    input: Vec<u8>,
+    answers: String,
+}
+
+impl Vectors {
+    fn ask(&mut self, words: &[u64], length: usize) {
+        let mut words = words.to_vec();
+        assert!(words.len() <= length);
+        words.resize(length, 0);
+        for w in words {
+            self.input.extend(w.to_le_bytes());
+        }
+    }
+
+    fn word(&mut self, w: u64) {
+        self.answers += &format!("{w:016x}\n");
+    }
+
+    fn float(&mut self, x: f64) {
+        self.word(if x.is_nan() { 0x7ff8_0000_0000_0000 } else { x.to_bits() });
+    }
+
+    fn fit(&mut self, fit: &GeometryFit) {
+        for row in fit.h.m {
+            for x in row {
+                self.float(x);
+            }
+        }
+        for x in [fit.radial.k, fit.radial.cx, fit.radial.cy, fit.radial.norm] {
+            self.float(x);
+        }
+    }
+
+    fn write(&self, name: &str) {
+        let folder = format!("../../crates/{name}");
+        fs::create_dir_all(&folder).unwrap();
+        fs::write(format!("{folder}/stdin"), &self.input).unwrap();
+        fs::write(format!("{folder}/stdout"), &self.answers).unwrap();
+    }
+}
+
+fn frame_words(f: &FrameSpec) -> [u64; 4] {
+    [f.width, f.height, f.cell, f.margin].map(|n| n as u64)
+}
+
+fn frame(width: usize, height: usize, cell: usize, margin: usize) -> FrameSpec {
+    FrameSpec { width, height, cell, margin }
+}
+
+fn frame_held(f: &FrameSpec) -> bool {
+    let side = |n: usize| (1..=4096).contains(&n);
+    side(f.width) && side(f.height) && (1..=512).contains(&f.cell) && f.margin <= 4096
+}
+
+// The numbers of cells that are sampled.
+fn sampled(f: &FrameSpec) -> usize {
+    f.rows().div_ceil(3) * f.cols().div_ceil(3)
+}
+
+// ---- grid_examples
+
+fn ask_fit_for(v: &mut Vectors, w: usize, h: usize, f: &FrameSpec, points: &[[f64; 2]; 4], k: f64) {
+    let mut words = vec![0, w as u64, h as u64];
+    words.extend(frame_words(f));
+    words.extend(points.iter().flatten().map(|x| x.to_bits()));
+    words.push(k.to_bits());
+    v.ask(&words, 24);
+    if !frame_held(f) {
+        return v.word(1);
+    }
+    if !(1..=4096).contains(&w) || !(1..=4096).contains(&h) {
+        return v.word(2);
+    }
+    if marker_layout(f).is_none() {
+        return v.word(5);
+    }
+    match fit_for(&RgbImage::new(w, h), f, points, k) {
+        None => v.word(10),
+        Some(fit) => {
+            v.word(0);
+            v.fit(&fit);
+        }
+    }
+}
+
+// The first cell, by rows, with a tap outside the picture.
+fn outside(img: &RgbImage, f: &FrameSpec, fit: &GeometryFit) -> Option<usize> {
+    for r in (0..f.rows()).step_by(3) {
+        for c in (0..f.cols()).step_by(3) {
+            let (x0, y0) = f.cell_origin(c, r);
+            for i in 0..9 {
+                let p = fit.map([
+                    x0 as f64 + TAPS[i % 3] * f.cell as f64,
+                    y0 as f64 + TAPS[i / 3] * f.cell as f64,
+                ]);
+                if p[0] < 0.0 || p[1] < 0.0 || p[0] >= img.w as f64 || p[1] >= img.h as f64 {
+                    return Some(r * f.cols() + c);
+                }
+            }
+        }
+    }
+    None
+}
+
+fn ask_grid_score(v: &mut Vectors, img: &RgbImage, f: &FrameSpec, fit: &GeometryFit, means: usize) {
+    let mut words = vec![1, img.w as u64, img.h as u64];
+    words.extend(frame_words(f));
+    words.extend(fit.h.m.iter().flatten().map(|x| x.to_bits()));
+    words.extend([fit.radial.k, fit.radial.cx, fit.radial.cy, fit.radial.norm].map(f64::to_bits));
+    words.push(img.data.len() as u64);
+    words.push(means as u64);
+    v.ask(&words, 24);
+    if !frame_held(f) {
+        return v.word(1);
+    }
+    if img.w < 1 || img.h < 1 || img.data.len() != 3 * img.w * img.h {
+        return v.word(2);
+    }
+    if means < sampled(f) {
+        return v.word(3);
+    }
+    v.word(0);
+    let score = grid_score(img, f, fit);
+    v.float(score);
+    match outside(img, f, fit) {
+        Some(cell) => {
+            assert!(score == f64::NEG_INFINITY);
+            v.word(1);
+            v.word(cell as u64);
+        }
+        None => v.word(if sampled(f) < 16 { 2 } else { 0 }),
+    }
+}
+
+fn noise(w: usize, h: usize, rng: &mut Random) -> RgbImage {
+    let mut img = RgbImage::new(w, h);
+    for b in img.data.iter_mut() {
+        *b = rng.next() as u8;
+    }
+    img
+}
+
+fn scaled(sx: f64, sy: f64, dx: f64, dy: f64) -> Homography {
+    Homography::from_mat([[sx, 0.0, dx], [0.0, sy, dy], [0.0, 0.0, 1.0]])
+}
+
+fn grid_vectors() -> Vectors {
+    let mut v = Vectors::default();
+    let mut rng = Random(8);
+    let square = [[10.0, 9.0], [180.0, 12.0], [190.0, 170.0], [8.0, 175.0]];
+    let small = frame(192, 192, 1, 48);
+    for k in [0.0, -0.2, 0.2, 0.013, f64::NAN, f64::INFINITY] {
+        ask_fit_for(&mut v, 200, 190, &small, &square, k);
+    }
+    // four points (0, 0) with k = 0 give 10; three on a line
+    ask_fit_for(&mut v, 200, 200, &small, &[[0.0; 2]; 4], 0.0);
+    ask_fit_for(&mut v, 200, 200, &small, &[[0.0, 0.0], [5.0, 5.0], [9.0, 9.0], [0.0, 7.0]], 0.0);
+    for _ in 0..20 {
+        let (w, h) = (1 + (rng.next() % 400) as usize, 1 + (rng.next() % 400) as usize);
+        let points = [0; 4].map(|_| [rng.between(-20.0, 420.0), rng.between(-20.0, 420.0)]);
+        ask_fit_for(&mut v, w, h, &frame(224, 230, 12, 56), &points, rng.between(-0.2, 0.2));
+    }
+    // refusals, the lowest number first
+    ask_fit_for(&mut v, 0, 200, &frame(192, 192, 0, 48), &square, 0.0);
+    ask_fit_for(&mut v, 0, 200, &frame(192, 192, 1, 47), &square, 0.0);
+    ask_fit_for(&mut v, 200, 4097, &small, &square, 0.0);
+    ask_fit_for(&mut v, 200, 200, &frame(192, 192, 1, 47), &[[0.0; 2]; 4], 0.0);
+    ask_fit_for(&mut v, 200, 200, &frame(191, 192, 1, 48), &square, 0.0);
+
+    let at = |h: Homography, k: f64| GeometryFit { h, radial: Radial::new(48, 40, k) };
+    let picture = noise(48, 40, &mut rng);
+    v.ask(&[2, picture.data.len() as u64], 24);
+    v.input.extend(&picture.data);
+    let sixteen = frame(36, 36, 3, 0);
+    let fifteen = frame(39, 27, 3, 0);
+    for k in [0.0, 0.05, -0.05, 0.2] {
+        for f in [&sixteen, &fifteen, &frame(47, 39, 2, 1), &frame(40, 40, 1, 2), &frame(40, 36, 7, 20)] {
+            for h in [
+                scaled(1.0, 1.0, 0.0, 0.0),
+                scaled(1.1, 0.9, 0.4, 1.3),
+                scaled(1.25, 1.2, 0.0, 0.0),
+                scaled(1.0, 1.0, -4.5, 2.0),
+                scaled(-1.0, -1.0, 40.0, 38.0),
+                Homography::from_mat([[0.9, 0.05, 2.0], [-0.03, 0.8, 3.0], [0.001, -0.002, 1.0]]),
+            ] {
+                ask_grid_score(&mut v, &picture, f, &at(h, k), sampled(f) + 3);
+            }
+        }
+    }
+    // a NaN coordinate is not outside, and is read as black; the other coordinate is still tested
+    for h in [
+        scaled(f64::NAN, 1.0, 0.0, 0.0),
+        scaled(f64::NAN, f64::NAN, 0.0, 0.0),
+        scaled(f64::NAN, 1.0, 0.0, 30.0),
+        scaled(1.0, f64::NAN, 0.0, 0.0),
+    ] {
+        ask_grid_score(&mut v, &picture, &sixteen, &at(h.clone(), 0.0), 16);
+        ask_grid_score(&mut v, &picture, &sixteen, &at(h, 0.1), 16);
+    }
+    let identity = at(scaled(1.0, 1.0, 0.0, 0.0), 0.0);
+    // refusals
+    ask_grid_score(&mut v, &picture, &frame(36, 36, 513, 0), &identity, 0);
+    ask_grid_score(&mut v, &picture, &sixteen, &identity, 15);
+    let mut short = picture.clone();
+    short.data.pop();
+    ask_grid_score(&mut v, &short, &sixteen, &identity, 0);
+    let empty = RgbImage { w: 0, h: 40, data: vec![] };
+    ask_grid_score(&mut v, &empty, &sixteen, &identity, 0);
+    v
+}
+
+// ---- fit_examples
+
+// A canonical card of random grey and coloured cells.
+fn card(f: &FrameSpec, rng: &mut Random) -> RgbImage {
+    let mut img = RgbImage::new(f.width, f.height);
+    img.fill_rect(0, 0, f.width, f.height, [230, 226, 220]);
+    for r in 0..f.rows() {
+        for c in 0..f.cols() {
+            let (x, y) = f.cell_origin(c, r);
+            let light = 60 + rng.next() % 180;
+            let colour = [light, light, light ^ (rng.next() % 32)].map(|n| n as u8);
+            img.fill_rect(x, y, f.cell, f.cell, colour);
+        }
+    }
+    stamp_fiducials(&mut img, f);
+    img
+}
+
+// The card seen with its corners at these places of a picture of w by h, through a lens term k.
+fn photograph(card: &RgbImage, w: usize, h: usize, corners: [[f64; 2]; 4], k: f64) -> RgbImage {
+    let (cw, ch) = (card.w as f64, card.h as f64);
+    let back = Homography::from_points(&corners, &[[0.0, 0.0], [cw, 0.0], [cw, ch], [0.0, ch]]).unwrap();
+    let lens = Radial::new(w, h, k);
+    let mut img = RgbImage::new(w, h);
+    for y in 0..h {
+        for x in 0..w {
+            let p = back.apply(lens.undistort([x as f64 + 0.5, y as f64 + 0.5]));
+            let inside = p[0] >= 0.0 && p[1] >= 0.0 && p[0] < cw && p[1] < ch;
+            img.set(x, y, if inside { bilinear(card, p[0], p[1]) } else { [205, 204, 200] });
+        }
+    }
+    img
+}
+
+// The search again, by the original's own parts: how many trials have a homography, and the kept score.
+fn homographies(img: &RgbImage, f: &FrameSpec) -> u64 {
+    let obs = detect_fiducials(img, f).unwrap();
+    let mut count = 0;
+    let mut centre = 0.0f64;
+    for (span, step) in K_STAGES {
+        let mut stage: Option<(f64, f64)> = None;
+        for i in 0..=(2.0 * span / step).round() as i64 {
+            let k = (centre - span + step * i as f64).clamp(-K_MAX, K_MAX);
+            let Some(fit) = fit_for(img, f, &obs, k) else { continue };
+            count += 1;
+            let score = grid_score(img, f, &fit);
+            if stage.is_none_or(|(best, _)| score > best) {
+                stage = Some((score, k));
+            }
+        }
+        centre = stage.unwrap().1;
+    }
+    assert!(centre.to_bits() == fit_geometry(img, f).unwrap().radial.k.to_bits());
+    count
+}
+
+fn ask_fit_geometry(v: &mut Vectors, name: &str, img: &RgbImage, f: &FrameSpec, means: usize) {
+    let mut words = vec![img.w as u64, img.h as u64];
+    words.extend(frame_words(f));
+    words.push(img.data.len() as u64);
+    words.push(means as u64);
+    v.ask(&words, 8);
+    v.input.extend(&img.data);
+    if !frame_held(f) {
+        return v.word(1);
+    }
+    if img.w < 1 || img.h < 1 || img.data.len() != 3 * img.w * img.h {
+        return v.word(2);
+    }
+    if means < sampled(f) {
+        return v.word(3);
+    }
+    let Some((marker, _)) = marker_layout(f) else {
+        return v.word(5);
+    };
+    if img.w < 32 || img.h < 32 {
+        return v.word(6);
+    }
+    let luma = luma_plane(img);
+    let radius = (marker as usize / 3).clamp(8, img.w.min(img.h) / 4);
+    let mask = adaptive_black_mask(&luma, img.w, img.h, radius, 8.0);
+    let blobs = label_blobs(&mask, img.w, img.h);
+    let candidates = fiducial_candidates(img, f);
+    if candidates.len() < 4 {
+        println!("{name}: {} patches, {} candidates: 7", blobs.len(), candidates.len());
+        v.word(7);
+        v.word(blobs.len() as u64);
+        return v.word(candidates.len() as u64);
+    }
+    let fit = fit_geometry(img, f).unwrap();
+    let score = grid_score(img, f, &fit);
+    println!("{name}: {} patches, {} candidates, k {}, score {score}", blobs.len(), candidates.len(), fit.radial.k);
+    v.word(0);
+    v.word(blobs.len() as u64);
+    v.word(candidates.len() as u64);
+    for p in detect_fiducials(img, f).unwrap() {
+        let at = blobs.iter().position(|b| [b.sx / b.area as f64 + 0.5, b.sy / b.area as f64 + 0.5] == p);
+        v.word(at.unwrap() as u64);
+    }
+    v.fit(&fit);
+    v.float(score);
+    v.word(78);
+    v.word(homographies(img, f));
+}
+
+fn fit_vectors() -> Vectors {
+    let mut v = Vectors::default();
+    let mut rng = Random(80);
+    let fine = frame(192, 192, 1, 48);
+    let coarse = frame(192, 192, 8, 48);
+    let few = frame(224, 224, 12, 56);
+    let straight = [[4.0, 4.0], [196.0, 4.0], [196.0, 196.0], [4.0, 196.0]];
+    let tilted = [[7.0, 5.0], [190.0, 9.0], [194.0, 192.0], [3.0, 188.0]];
+    let a = photograph(&card(&coarse, &mut rng), 200, 200, tilted, 0.04);
+    ask_fit_geometry(&mut v, "coarse, tilted", &a, &coarse, 16);
+    let b = photograph(&card(&coarse, &mut rng), 200, 192, tilted.map(|p| [p[0], p[1] * 0.96]), -0.03);
+    ask_fit_geometry(&mut v, "coarse, barrel", &b, &coarse, 20);
+    let c = photograph(&card(&fine, &mut rng), 200, 200, straight, 0.0);
+    ask_fit_geometry(&mut v, "fine", &c, &fine, 1024);
+    // fewer than 16 sampled cells: the first term tried stays
+    let d = photograph(&card(&few, &mut rng), 200, 200, straight, 0.0);
+    ask_fit_geometry(&mut v, "few cells", &d, &few, 9);
+    let e = photograph(&card(&few, &mut rng), 196, 200, tilted, 0.02);
+    ask_fit_geometry(&mut v, "few cells, tilted", &e, &few, 9);
+    // refusals
+    ask_fit_geometry(&mut v, "blank", &RgbImage::new(32, 32), &fine, 1024);
+    ask_fit_geometry(&mut v, "small", &RgbImage::new(31, 32), &fine, 1024);
+    ask_fit_geometry(&mut v, "no layout", &RgbImage::new(31, 32), &frame(192, 192, 1, 47), 2000);
+    ask_fit_geometry(&mut v, "short means", &RgbImage::new(31, 32), &frame(192, 192, 1, 47), 1023);
+    let mut long = RgbImage::new(31, 32);
+    long.data.push(0);
+    ask_fit_geometry(&mut v, "long capture", &long, &fine, 0);
+    ask_fit_geometry(&mut v, "cell 0", &long, &frame(192, 192, 0, 48), 0);
+    v
+}
+
+fn main() {
+    grid_vectors().write("grid_examples");
+    fit_vectors().write("fit_examples");
+}

@@ -1,0 +1,124 @@
+// Vectors for the program crate sampling_examples: places in a small picture, and the original's `bilinear` there.
+// In host/vectors: `cargo run --release --offline --bin sampling` writes crates/sampling_examples/stdin and stdout again.
+//
+// stdin is the 60 bytes of a picture of 5 by 4, four bytes of padding, and then the places, two 64-bit words each, lowest
+// byte first: the patterns of x and y. stdout begins with what the program asks by itself: document 01's example, 0 and
+// 255 side by side at (1.0, 0.5), and four captures that document 01 refuses by 2. Then a line for each place.
+use lpcore::geometry::bilinear;
+use lpcore::image::RgbImage;
+use std::fs;
+
+const W: usize = 5;
+const H: usize = 4;
+
+struct Random(u64);
+
+impl Random {
+    // splitmix64
+    fn next(&mut self) -> u64 {
+        self.0 = self.0.wrapping_add(0x9e37_79b9_7f4a_7c15);
+        let mut z = self.0;
+        z = (z ^ (z >> 30)).wrapping_mul(0xbf58_476d_1ce4_e5b9);
+        z = (z ^ (z >> 27)).wrapping_mul(0x94d0_49bb_1331_11eb);
+        z ^ (z >> 31)
+    }
+
+    // from lo up to hi
+    fn between(&mut self, lo: f64, hi: f64) -> f64 {
+        lo + (self.next() >> 11) as f64 / (1u64 << 53) as f64 * (hi - lo)
+    }
+}
+
+fn line(c: [u8; 3]) -> String {
+    format!("{:02x}{:02x}{:02x}\n", c[0], c[1], c[2])
+}
+
+fn next(x: f64) -> f64 {
+    f64::from_bits(x.to_bits() + 1)
+}
+
+fn before(x: f64) -> f64 {
+    f64::from_bits(x.to_bits() - 1)
+}
+
+fn places(random: &mut Random) -> Vec<(f64, f64)> {
+    let odd = [
+        f64::NAN,
+        f64::INFINITY,
+        f64::NEG_INFINITY,
+        0.0,
+        -0.0,
+        f64::MAX,
+        f64::MIN,
+        f64::MIN_POSITIVE,
+        5e-324,
+        -5e-324,
+        1.8446744073709552e19,
+        9007199254740993.0,
+    ];
+    let mut list = Vec::new();
+    // one coordinate odd, the other one ordinary; and both odd
+    for x in odd {
+        list.push((x, 1.75));
+        list.push((2.25, x));
+    }
+    for x in [f64::NAN, f64::INFINITY, f64::NEG_INFINITY, -0.0] {
+        for y in [f64::NAN, f64::INFINITY, f64::NEG_INFINITY, 1e300] {
+            list.push((x, y));
+        }
+    }
+    // pixel centres, and the floats on either side of some
+    for y in 0..H {
+        for x in 0..W {
+            list.push((x as f64 + 0.5, y as f64 + 0.5));
+        }
+    }
+    for k in 1..W {
+        let t = k as f64 + 0.5;
+        list.push((before(t), 1.5));
+        list.push((next(t), 2.5));
+        list.push((1.5, before(t)));
+        list.push((3.5, next(t)));
+    }
+    // edges, and just outside
+    for x in [-1.0, 0.0, 0.25, 0.49999999999999994, 4.5, 4.75, 5.0, 5.5, 6.0] {
+        for y in [-3.0, 0.0, 3.5, 4.0, 4.5] {
+            list.push((x, y));
+        }
+    }
+    // halves and quarters, whose weights are exact
+    for k in 0..40 {
+        list.push((k as f64 * 0.125, 4.0 - k as f64 * 0.0625));
+    }
+    while list.len() < 300 {
+        list.push((random.between(-1.0, 6.0), random.between(-1.0, 5.0)));
+    }
+    assert_eq!(list.len(), 300);
+    list
+}
+
+fn main() {
+    let mut random = Random(4);
+    let mut img = RgbImage::new(W, H);
+    for b in img.data.iter_mut() {
+        *b = (random.next() >> 56) as u8;
+    }
+    img.set(0, 0, [0, 255, 0]);
+    img.set(1, 0, [255, 0, 255]);
+    let mut two = RgbImage::new(2, 1);
+    two.set(1, 0, [255, 255, 255]);
+
+    let mut input = img.data.clone();
+    input.resize(64, 0);
+    let mut output = line(bilinear(&two, 1.0, 0.5));
+    output += &"refused 2\n".repeat(4);
+    for (x, y) in places(&mut random) {
+        input.extend(x.to_bits().to_le_bytes());
+        input.extend(y.to_bits().to_le_bytes());
+        output += &line(bilinear(&img, x, y));
+    }
+    let there = concat!(env!("CARGO_MANIFEST_DIR"), "/../../crates/sampling_examples");
+    fs::write(format!("{there}/stdin"), input).unwrap();
+    fs::write(format!("{there}/stdout"), &output).unwrap();
+    println!("{} lines", output.lines().count());
+}
