@@ -1,0 +1,4 @@
+-- Laws of the definitions.
+pub mod Cases
+mod Walks
+pub mod Lent

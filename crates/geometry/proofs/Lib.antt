@@ -1,0 +1,4 @@
+-- Laws and theorems of this crate.
+pub mod Given
+pub mod Parts
+pub mod Rows

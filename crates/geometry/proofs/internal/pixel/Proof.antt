@@ -1,0 +1,31 @@
+-- `geometry::internal::pixel` meets its contract. Assumes nothing.
+use borrow.Author.Needs.{needs}
+use Rattle.geometry.specs.Warp.{reading, pixelPlace}
+use Rattle.geometry.proofs.internal.pixel.Statement.{statement}
+use Rattle.geometry.proofs.internal.pixel.Tie as tie
+
+centre-requires : tie.Need-centre-requires
+centre-requires c κs = search needs
+
+centre-requires-2 : tie.Need-centre-requires-2
+centre-requires-2 c κs = search needs
+
+map-requires : tie.Need-map-requires
+map-requires c κs = search needs
+
+reading-requires : tie.Need-reading-requires
+reading-requires c κs = search needs
+
+returns : tie.Need-returns
+unfolding reading pixelPlace
+returns c = cc
+
+pub pixel-spec : {M : Type 1} → statement M
+pixel-spec =
+    tie.close
+    (tie.spec
+    centre-requires
+    centre-requires-2
+    map-requires
+    reading-requires
+    returns)

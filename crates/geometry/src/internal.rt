@@ -1,0 +1,89 @@
+// The warp, for callers that have made their tests.
+use fit::GeometryFit;
+use frame::FrameSpec;
+use frame::Point;
+use frame::Rgb;
+ghost use mathlib.Core.Path.{_≡_};
+ghost use mathlib.Core.Bool.{not};
+ghost use Prim.Native.Nat.{_+_, _*_, _<_, _≤_};
+ghost use lib.Dec.{eqb};
+ghost use lib.ListN.{length};
+ghost use Rattle.base.specs.Loops.{filled};
+ghost use Rattle.float.specs.Floats.{_⊕_, f64, d64};
+ghost use Rattle.frame.specs.Image.{image};
+ghost use Rattle.frame.specs.Limits.{FrameHeld, CaptureHeld};
+ghost use Rattle.geometry.specs.Warp.{reading, rowByte, warped};
+
+// The centre of the pixel in column or row n.
+fn centre(n: usize) -> f64
+    requires { ⌜ n < 4096 ⌝ }
+    ensures { λ r. ⌜ r ≡ f64 n ⊕ d64 5 10 ⌝ }
+{
+    (n as i64) as f64 + 0.5
+}
+
+// The colour of the canonical pixel in column x and row y: the reading where the fit puts its centre.
+fn pixel(capture: &[u8], w: usize, h: usize, fit: GeometryFit, x: usize, y: usize) -> Rgb
+    requires { ⌜ CaptureHeld (image w h (now capture)) × (x < 4096) × (y < 4096) ⌝ }
+    ensures { λ r. ⌜ r ≡ reading (image w h (now (capture .entry))) fit x y ⌝ }
+{
+    let c = Point {
+        x: centre(x),
+        y: centre(y),
+    };
+    let p = fit.map(c);
+    sampling::internal::reading(capture, w, h, p)
+}
+
+// Row y of the canonical image.
+pub fn warp_row(
+    capture: &[u8],
+    w: usize,
+    h: usize,
+    frame: FrameSpec,
+    fit: GeometryFit,
+    y: usize,
+    row: &mut [u8],
+)
+    requires { ⌜ CaptureHeld (image w h (now capture)) × FrameHeld frame × (y < 4096) × (length (now row) ≡ 3 * frame .width) ⌝ }
+    ensures { λ _. ⌜ now (row .exit) ≡ filled (rowByte (image w h (now (capture .entry))) fit y) (3 * frame .width) (now (row .entry)) ⌝ }
+{
+    let width = frame.width;
+    for x in 0..width {
+        let c = pixel(capture, w, h, fit, x, y);
+        let i = x * 3;
+        row[i] = c.r;
+        row[i + 1] = c.g;
+        row[i + 2] = c.b;
+    }
+}
+
+// The canonical image, a row at a time.
+pub fn warp(
+    capture: &[u8],
+    w: usize,
+    h: usize,
+    frame: FrameSpec,
+    fit: GeometryFit,
+    canonical: &mut [u8],
+)
+    requires { ⌜ CaptureHeld (image w h (now capture)) × FrameHeld frame × (length (now canonical) ≡ 3 * frame .width * frame .height) ⌝ }
+    ensures { λ _. ⌜ now (canonical .exit) ≡ warped (image w h (now (capture .entry))) frame fit (now (canonical .entry)) ⌝ }
+{
+    let width = frame.width;
+    let size = 3 * width;
+    let height = frame.height;
+    for y in 0..height {
+        let start = y * size;
+        let end = start + size;
+        warp_row(capture, w, h, frame, fit, y, &mut canonical[start..end]);
+    }
+}
+
+// Refusal 4, of a canonical image of n bytes.
+pub fn canonical_wrong(frame: FrameSpec, n: usize) -> bool
+    requires { ⌜ FrameHeld frame ⌝ }
+    ensures { λ r. ⌜ r ≡ not (eqb n (3 * frame .width * frame .height)) ⌝ }
+{
+    n != 3 * frame.width * frame.height
+}

@@ -1,0 +1,328 @@
+-- The kept trial of a stage scores most, and first among equals; NaN included. Assumes nothing.
+use mathlib.Core.Path.{_≡_, refl, sym, ap, subst, _∙_}
+use mathlib.Core.Bool.{Bool, true, false, not, cond}
+use mathlib.Core.Logic.{_⊎_, inl, inr, ⊎-elim}
+use Prim.Native.Nat.{ℕ, zero, suc, _+_, _≤_, _<_}
+use native.Mathlib.Nat.{eq-or-lt-of-le, le-of-suc-le-suc}
+use native.Mathlib.Omega.{arith}
+use lib.Dec.{T, T-not, not-T}
+use lib.Ieee.{Float, lt, le, isNan}
+use Rattle.frame.specs.declared.FrameSpec.{FrameSpec}
+use Rattle.frame.specs.declared.Quad.{Quad}
+use Rattle.fit.specs.declared.GeometryFit.{GeometryFit}
+use Rattle.fit.specs.declared.Grade.{Grade}
+use Rattle.search.specs.declared.Outcome.{Outcome}
+use Rattle.search.specs.declared.Outcome.the-variants.{NoHomography, Graded}
+use Rattle.search.specs.declared.Stage.{Stage}
+use Rattle.base.specs.Loops.{turns}
+use Rattle.frame.specs.Image.{Image}
+use Rattle.fit.specs.Grid.{scoreOf, gradeOf}
+use Rattle.search.specs.Stages.{takes, stays, staged, replaces, more, asMuch, begun, stageFrom, trialStep, entries, kAt, outcomeOf, BestTrial, nextStage, firstStage, secondStage, searched, lastCentre, onKept, keeps, Barren, BarrenStage}
+use Rattle.fit.specs.Fits.{fitFor, fitsFor}
+use Rattle.search.specs.Stages.BarrenStage.{first, second, third}
+use Rattle.fiducials.proofs.Order.{lt-step, step-lt, lt-trans, lt-irrefl, lt-not-le, not-le-nan}
+use Rattle.float.specs.Floats.{f64}
+use Rattle.search.proofs.Entries.{stage-lengths}
+
+-- trial e of the first n, with outcomes o and fits t, is the one that the stage s keeps; or none of them has a homography
+pub data Keeps (o : ℕ → Outcome) (t : ℕ → GeometryFit) (n : ℕ) (s : Stage) : Type 0 where
+  none : s .kept ≡ NoHomography → ((i : ℕ) → i < n → o i ≡ NoHomography) → Keeps o t n s
+  some : (e : ℕ) (g : Grade) → e < n → o e ≡ Graded g → s .kept ≡ Graded g → s .fit ≡ t e
+      → ((i : ℕ) → i < n → T (not (more (o i) (Graded g)))) → ((i : ℕ) → i < e → T (not (asMuch (o i) (Graded g)))) → Keeps o t n s
+
+-- a trial without homography has no score
+no-more : (g : Grade) → T (not (more NoHomography (Graded g)))
+unfolding more
+no-more g = tt
+
+no-as-much : (g : Grade) → T (not (asMuch NoHomography (Graded g)))
+unfolding asMuch
+no-as-much g = tt
+
+-- what was no more than b is less than what is more than b
+passed-more : (x : Outcome) (b g : Grade) → T (not (more x (Graded b))) → T (lt (scoreOf b) (scoreOf g)) → T (not (more x (Graded g)))
+unfolding more
+passed-more NoHomography b g h k = tt
+passed-more (Graded a) b g h k = not-T (lt (scoreOf g) (scoreOf a)) (λ l. T-not (lt (scoreOf b) (scoreOf a)) h (lt-trans (scoreOf b) (scoreOf g) (scoreOf a) k l))
+
+passed-as-much : (x : Outcome) (b g : Grade) → T (not (more x (Graded b))) → T (lt (scoreOf b) (scoreOf g)) → T (not (asMuch x (Graded g)))
+unfolding more asMuch
+passed-as-much NoHomography b g h k = tt
+passed-as-much (Graded a) b g h k = go (isNan (scoreOf a)) (λ n. not-le-nan (scoreOf g) (scoreOf a) n) (λ n. lt-not-le (scoreOf a) (scoreOf g) (step-lt (scoreOf a) (scoreOf b) (scoreOf g) h k n))
+  where
+    go : (n : Bool) → (T n → T (not (le (scoreOf g) (scoreOf a)))) → (T (not n) → T (not (le (scoreOf g) (scoreOf a)))) → T (not (le (scoreOf g) (scoreOf a)))
+    go true p q = p tt
+    go false p q = q tt
+
+self-more : (g : Grade) → T (not (more (Graded g) (Graded g)))
+unfolding more
+self-more g = lt-irrefl (scoreOf g)
+
+not-more : (b g : Grade) → T (not (lt (scoreOf g) (scoreOf b))) → T (not (more (Graded b) (Graded g)))
+unfolding more
+not-more b g h = h
+
+last-or : (i n : ℕ) → i < suc n → (i ≡ n) ⊎ (i < n)
+last-or i n h = eq-or-lt-of-le (le-of-suc-le-suc h)
+
+module _ (o : ℕ → Outcome) (t : ℕ → GeometryFit) where
+  -- one more trial, by its outcome x
+  one-more : (n : ℕ) (s : Stage) (x : Outcome) → o n ≡ x → Keeps o t n s → Keeps o t (suc n) (staged x (t n) s)
+  unfolding staged
+  one-more n s NoHomography e (none k f) = none k (λ i h. ⊎-elim (λ p. ap o p ∙ e) (λ l. f i l) (last-or i n h))
+  one-more n s NoHomography e (some a g l p k q m u) =
+      some a g (omega arith) p k q
+      (λ i h. ⊎-elim (λ w. subst (λ y. T (not (more y (Graded g)))) (sym (ap o w ∙ e)) (no-more g)) (λ w. m i w) (last-or i n h)) u
+  one-more n s (Graded b) e (none k f) =
+      subst (λ z. Keeps o t (suc n) z) (sym (taken (s .kept) k))
+      (some n b (omega arith) e refl refl
+      (λ i h. ⊎-elim (λ w. subst (λ y. T (not (more y (Graded b)))) (sym (ap o w ∙ e)) (self-more b)) (λ w. subst (λ y. T (not (more y (Graded b)))) (sym (f i w)) (no-more b)) (last-or i n h))
+      (λ i h. subst (λ y. T (not (asMuch y (Graded b)))) (sym (f i h)) (no-as-much b)))
+    where
+      taken : (y : Outcome) → y ≡ NoHomography → cond (replaces y b) (takes b (t n) s) (stays s) ≡ takes b (t n) s
+      taken y e = ap (λ z. cond (replaces z b) (takes b (t n) s) (stays s)) e ∙ always
+        where
+          always : cond (replaces NoHomography b) (takes b (t n) s) (stays s) ≡ takes b (t n) s
+          always = unfold replaces in refl
+  one-more n s (Graded b) e (some a g l p k q m u) = go (replaces (s .kept) b) refl
+    where
+      test : replaces (s .kept) b ≡ lt (scoreOf g) (scoreOf b)
+      test = ap (λ z. replaces z b) k ∙ by-score
+        where
+          by-score : replaces (Graded g) b ≡ lt (scoreOf g) (scoreOf b)
+          by-score = unfold replaces in refl
+
+      beaten : (c : Bool) → replaces (s .kept) b ≡ c → lt (scoreOf g) (scoreOf b) ≡ c
+      beaten c r = sym test ∙ r
+
+      go : (c : Bool) → replaces (s .kept) b ≡ c
+          → Keeps o t (suc n) (cond c (takes b (t n) s) (stays s))
+      go true r =
+          let w : T (lt (scoreOf g) (scoreOf b)) = subst T (sym (beaten true r)) tt in
+          some n b (omega arith) e refl refl
+          (λ i h. ⊎-elim (λ v. subst (λ y. T (not (more y (Graded b)))) (sym (ap o v ∙ e)) (self-more b)) (λ v. passed-more (o i) g b (m i v) w) (last-or i n h))
+          (λ i h. passed-as-much (o i) g b (m i h) w)
+      go false r =
+          let w : T (not (lt (scoreOf g) (scoreOf b))) = subst (λ z. T (not z)) (sym (beaten false r)) tt in
+          some a g (omega arith) p k q
+          (λ i h. ⊎-elim (λ v. subst (λ y. T (not (more y (Graded g)))) (sym (ap o v ∙ e)) (not-more b g w)) (λ v. m i v) (last-or i n h)) u
+
+  -- after all of them
+  pub kept-trial : (n tried homographies : ℕ) → Keeps o t n (turns n (λ i s. staged (o i) (t i) s) (begun tried homographies))
+  unfolding turns
+  kept-trial zero tried homographies = none refl (λ i h. absurd (omega arith))
+  kept-trial (suc n) tried homographies = one-more n (turns n (λ i s. staged (o i) (t i) s) (begun tried homographies)) (o n) refl (kept-trial n tried homographies)
+
+-- ---- the last stage of a search
+
+-- a trial that has an outcome with a grade has a homography
+graded : (img : Image) (f : FrameSpec) (q : Quad) (k : Float) (g : Grade) → outcomeOf img f q k ≡ Graded g → T (fitsFor (img .w) (img .h) f q k)
+unfolding outcomeOf
+graded img f q k g e = go (fitsFor (img .w) (img .h) f q k) e
+  where
+    go : (b : Bool) → cond b (Graded (gradeOf img f (fitFor (img .w) (img .h) f q k))) NoHomography ≡ Graded g → T b
+    go true e = tt
+    go false e = let z : _≡_ {A = ℕ} 0 1 = cc in absurd (omega arith)
+
+module _ (img : Image) (f : FrameSpec) (q : Quad) (j : ℕ) (centre : Float) (tried homographies : ℕ) where
+  -- the trial that a stage keeps is its best, and the first of the best
+  pub stage-best : (g : Grade) → stageFrom img f q j centre tried homographies .kept ≡ Graded g → BestTrial img f q j centre (stageFrom img f q j centre tried homographies .fit)
+  unfolding stageFrom
+  stage-best g e = go (kept-trial (λ i. outcomeOf img f q (kAt j centre i)) (λ i. fitFor (img .w) (img .h) f q (kAt j centre i)) (entries j) tried homographies)
+    where
+      go : Keeps (λ i. outcomeOf img f q (kAt j centre i)) (λ i. fitFor (img .w) (img .h) f q (kAt j centre i)) (entries j) (stageFrom img f q j centre tried homographies)
+          → BestTrial img f q j centre (stageFrom img f q j centre tried homographies .fit)
+      go (none k h) = absurd (let z : _≡_ {A = ℕ} 0 1 = cc in omega arith)
+      go (some a b l p k r m u) =
+          record {
+            entry = a;
+            of-stage = l;
+            has-homography = graded img f q (kAt j centre a) b p;
+            is = r;
+            none-more = λ i h. subst (λ z. T (not (more (outcomeOf img f q (kAt j centre i)) z))) (sym p) (m i h);
+            none-earlier = λ i h. subst (λ z. T (not (asMuch (outcomeOf img f q (kAt j centre i)) z))) (sym p) (u i h);
+          }
+
+  -- a stage keeps none exactly when no trial of it has a homography
+  pub stage-none : stageFrom img f q j centre tried homographies .kept ≡ NoHomography → (i : ℕ) → i < entries j → outcomeOf img f q (kAt j centre i) ≡ NoHomography
+  unfolding stageFrom
+  stage-none e = go (kept-trial (λ i. outcomeOf img f q (kAt j centre i)) (λ i. fitFor (img .w) (img .h) f q (kAt j centre i)) (entries j) tried homographies)
+    where
+      go : Keeps (λ i. outcomeOf img f q (kAt j centre i)) (λ i. fitFor (img .w) (img .h) f q (kAt j centre i)) (entries j) (stageFrom img f q j centre tried homographies)
+          → (i : ℕ) → i < entries j → outcomeOf img f q (kAt j centre i) ≡ NoHomography
+      go (none k h) = h
+      go (some a b l p k r m u) = absurd (let z : _≡_ {A = ℕ} 0 1 = cc in omega arith)
+
+-- demand 3: the fit of a search that keeps one is the best trial of the last stage
+pub search-best : (img : Image) (f : FrameSpec) (q : Quad) (g : Grade) → searched img f q .kept ≡ Graded g → BestTrial img f q 2 (lastCentre img f q) (searched img f q .fit)
+unfolding searched nextStage lastCentre
+search-best img f q g e = go (secondStage img f q) (secondStage img f q .kept) refl e
+  where
+    go : (s : Stage) (o : Outcome) → s .kept ≡ o
+        → onKept (s .kept) s (stageFrom img f q 2 (s .fit .radial .k) (s .tried) (s .homographies)) .kept ≡ Graded g
+        → BestTrial img f q 2 (s .fit .radial .k) (onKept (s .kept) s (stageFrom img f q 2 (s .fit .radial .k) (s .tried) (s .homographies)) .fit)
+    go s NoHomography k e =
+        let d : onKept (s .kept) s (stageFrom img f q 2 (s .fit .radial .k) (s .tried) (s .homographies)) ≡ s =
+        ap (λ z. onKept z s (stageFrom img f q 2 (s .fit .radial .k) (s .tried) (s .homographies))) k in
+        absurd (let c : s .kept ≡ Graded g = sym (ap (λ (z : Stage). z .kept) d) ∙ e in let z : _≡_ {A = ℕ} 0 1 = cc in omega arith)
+    go s (Graded b) k e =
+        let n = stageFrom img f q 2 (s .fit .radial .k) (s .tried) (s .homographies) in
+        let d : onKept (s .kept) s n ≡ n = ap (λ z. onKept z s n) k in
+        subst (λ z. BestTrial img f q 2 (s .fit .radial .k) (z .fit)) (sym d)
+        (stage-best img f q 2 (s .fit .radial .k) (s .tried) (s .homographies) g (sym (ap (λ (z : Stage). z .kept) d) ∙ e))
+
+-- ---- the counts
+
+module _ (o : ℕ → Outcome) (t : ℕ → GeometryFit) (tried homographies : ℕ) where
+  pub counted : (n : ℕ) → turns n (λ i s. staged (o i) (t i) s) (begun tried homographies) .tried ≡ tried + n
+  unfolding turns
+  counted zero = omega arith
+  counted (suc n) = go (turns n (λ i s. staged (o i) (t i) s) (begun tried homographies)) (o n) (counted n)
+    where
+      take : (b : Bool) (g : Grade) (s : Stage) → s .tried ≡ tried + n → cond b (takes g (t n) s) (stays s) .tried ≡ tried + suc n
+      take true g s e = omega arith
+      take false g s e = omega arith
+
+      go : (s : Stage) (x : Outcome) → s .tried ≡ tried + n → staged x (t n) s .tried ≡ tried + suc n
+      go s NoHomography e = unfold staged in omega arith
+      go s (Graded g) e = unfold staged in take (replaces (s .kept) g) g s e
+
+module _ (img : Image) (f : FrameSpec) (q : Quad) where
+  stage-tried : (j : ℕ) (centre : Float) (tried homographies : ℕ) → stageFrom img f q j centre tried homographies .tried ≡ tried + entries j
+  unfolding stageFrom
+  stage-tried j centre tried homographies = counted (λ i. outcomeOf img f q (kAt j centre i)) (λ i. fitFor (img .w) (img .h) f q (kAt j centre i)) tried homographies (entries j)
+
+  -- a stage after one that kept a trial, and what it says of that one
+  next-tried : (j : ℕ) (s : Stage) (g : Grade) → nextStage img f q j s .kept ≡ Graded g → (nextStage img f q j s .tried ≡ s .tried + entries j) × ((b : Grade) × (s .kept ≡ Graded b))
+  unfolding nextStage
+  next-tried j s g e = go (s .kept) refl e
+    where
+      go : (o : Outcome) → s .kept ≡ o
+          → onKept o s (stageFrom img f q j (s .fit .radial .k) (s .tried) (s .homographies)) .kept ≡ Graded g
+          → (onKept o s (stageFrom img f q j (s .fit .radial .k) (s .tried) (s .homographies)) .tried ≡ s .tried + entries j) × ((b : Grade) × (s .kept ≡ Graded b))
+      go NoHomography k e = absurd (let z : _≡_ {A = ℕ} 0 1 = cc in omega arith)
+      go (Graded b) k e = (stage-tried j (s .fit .radial .k) (s .tried) (s .homographies), (b, k))
+
+  -- "trials tried (78 when accepted)"
+  pub tried-78 : (g : Grade) → searched img f q .kept ≡ Graded g → searched img f q .tried ≡ 78
+  unfolding searched secondStage firstStage
+  tried-78 g e =
+      let third = next-tried 2 (secondStage img f q) g e in
+      let second = next-tried 1 (firstStage img f q) (third .1 .0) (third .1 .1) in
+      let a : searched img f q .tried ≡ secondStage img f q .tried + entries 2 = third .0 in
+      let b : secondStage img f q .tried ≡ firstStage img f q .tried + entries 1 = second .0 in
+      let c : firstStage img f q .tried ≡ 0 + entries 0 = stage-tried 0 (f64 0) 0 0 in
+      let n0 : entries 0 ≡ 41 = stage-lengths .0 in
+      let n1 : entries 1 ≡ 21 = stage-lengths .1 in
+      let n2 : entries 2 ≡ 16 = stage-lengths .2 in
+      omega arith
+
+-- ---- 10: a search keeps none exactly when a stage is barren
+
+no-grade : (o : Outcome) → T (not (keeps o)) → o ≡ NoHomography
+unfolding keeps
+no-grade NoHomography h = refl
+no-grade (Graded g) h = absurd h
+
+some-grade : (o : Outcome) → T (keeps o) → (g : Grade) × (o ≡ Graded g)
+unfolding keeps
+some-grade NoHomography h = absurd h
+some-grade (Graded g) h = (g, refl)
+
+keeps-none : (o : Outcome) → o ≡ NoHomography → T (not (keeps o))
+unfolding keeps
+keeps-none NoHomography e = tt
+keeps-none (Graded g) e = let z : _≡_ {A = ℕ} 0 1 = cc in absurd (omega arith)
+
+module _ (img : Image) (f : FrameSpec) (q : Quad) where
+  without : (k : Float) → outcomeOf img f q k ≡ NoHomography → T (not (fitsFor (img .w) (img .h) f q k))
+  unfolding outcomeOf
+  without k e = go (fitsFor (img .w) (img .h) f q k) e
+    where
+      go : (b : Bool) → cond b (Graded (gradeOf img f (fitFor (img .w) (img .h) f q k))) NoHomography ≡ NoHomography → T (not b)
+      go true e = let z : _≡_ {A = ℕ} 0 1 = cc in absurd (omega arith)
+      go false e = tt
+
+  -- one stage
+  stage-barren : (j : ℕ) (centre : Float) (tried homographies : ℕ) → stageFrom img f q j centre tried homographies .kept ≡ NoHomography → Barren img f q j centre
+  stage-barren j centre tried homographies e i h = without (kAt j centre i) (stage-none img f q j centre tried homographies e i h)
+
+  barren-stage : (j : ℕ) (centre : Float) (tried homographies : ℕ) → Barren img f q j centre → T (not (keeps (stageFrom img f q j centre tried homographies .kept)))
+  barren-stage j centre tried homographies b =
+      not-T (keeps (stageFrom img f q j centre tried homographies .kept)) (λ t.
+      let g = some-grade (stageFrom img f q j centre tried homographies .kept) t in
+      let best = stage-best img f q j centre tried homographies (g .0) (g .1) in
+      T-not (fitsFor (img .w) (img .h) f q (kAt j centre (best .entry))) (b (best .entry) (best .of-stage)) (best .has-homography))
+
+  -- a later stage, after s
+  next-barren : (j : ℕ) (s : Stage) → T (not (keeps (nextStage img f q j s .kept))) → T (not (keeps (s .kept))) ⊎ (T (keeps (s .kept)) × Barren img f q j (s .fit .radial .k))
+  unfolding nextStage
+  next-barren j s h = go (s .kept) h
+    where
+      go : (o : Outcome) → T (not (keeps (onKept o s (stageFrom img f q j (s .fit .radial .k) (s .tried) (s .homographies)) .kept))) → T (not (keeps o)) ⊎ (T (keeps o) × Barren img f q j (s .fit .radial .k))
+      go NoHomography h = inl (keeps-none NoHomography refl)
+      go (Graded g) h = inr (unfold keeps in tt, stage-barren j (s .fit .radial .k) (s .tried) (s .homographies) (no-grade _ h))
+
+  barren-next : (j : ℕ) (s : Stage) → Barren img f q j (s .fit .radial .k) → T (not (keeps (nextStage img f q j s .kept)))
+  unfolding nextStage
+  barren-next j s b = go (s .kept) refl
+    where
+      go : (o : Outcome) → s .kept ≡ o → T (not (keeps (onKept o s (stageFrom img f q j (s .fit .radial .k) (s .tried) (s .homographies)) .kept)))
+      go NoHomography e = keeps-none (s .kept) e
+      go (Graded g) e = barren-stage j (s .fit .radial .k) (s .tried) (s .homographies) b
+
+  after-none : (j : ℕ) (s : Stage) → T (not (keeps (s .kept))) → T (not (keeps (nextStage img f q j s .kept)))
+  unfolding nextStage
+  after-none j s h = go (s .kept) refl (no-grade (s .kept) h)
+    where
+      go : (o : Outcome) → s .kept ≡ o → o ≡ NoHomography → T (not (keeps (onKept o s (stageFrom img f q j (s .fit .radial .k) (s .tried) (s .homographies)) .kept)))
+      go NoHomography e n = keeps-none (s .kept) e
+      go (Graded g) e n = let z : _≡_ {A = ℕ} 0 1 = cc in absurd (omega arith)
+
+  pub search-barren : T (not (keeps (searched img f q .kept))) → BarrenStage img f q
+  unfolding searched secondStage firstStage lastCentre
+  search-barren h = ⊎-elim
+      (λ s. ⊎-elim
+      (λ t. first (stage-barren 0 (f64 0) 0 0 (no-grade (firstStage img f q .kept) t)))
+      (λ t. second (t .0) (t .1))
+      (next-barren 1 (firstStage img f q) s))
+      (λ s. third (s .0) (s .1))
+      (next-barren 2 (secondStage img f q) h)
+
+  pub barren-search : BarrenStage img f q → T (not (keeps (searched img f q .kept)))
+  unfolding searched secondStage firstStage lastCentre
+  barren-search (first b) = after-none 2 (secondStage img f q) (after-none 1 (firstStage img f q) (barren-stage 0 (f64 0) 0 0 b))
+  barren-search (second k b) = after-none 2 (secondStage img f q) (barren-next 1 (firstStage img f q) b)
+  barren-search (third k b) = barren-next 2 (secondStage img f q) b
+
+-- ---- the homographies are counted over the trials
+
+mapped : Outcome → ℕ
+mapped NoHomography = 0
+mapped (Graded g) = 1
+
+unfoldable pub mappedOf : (ℕ → Outcome) → ℕ → ℕ
+unfolding mapped
+mappedOf o zero = 0
+mappedOf o (suc n) = mappedOf o n + mapped (o n)
+
+module _ (o : ℕ → Outcome) (t : ℕ → GeometryFit) (tried homographies : ℕ) where
+  pub mapped-counted : (n : ℕ) → turns n (λ i s. staged (o i) (t i) s) (begun tried homographies) .homographies ≡ homographies + mappedOf o n
+  unfolding turns mappedOf
+  mapped-counted zero = omega arith
+  mapped-counted (suc n) = go (turns n (λ i s. staged (o i) (t i) s) (begun tried homographies)) (o n) (mapped-counted n)
+    where
+      take : (b : Bool) (g : Grade) (s : Stage) → s .homographies ≡ homographies + mappedOf o n → cond b (takes g (t n) s) (stays s) .homographies ≡ homographies + (mappedOf o n + 1)
+      take true g s e = omega arith
+      take false g s e = omega arith
+
+      go : (s : Stage) (x : Outcome) → s .homographies ≡ homographies + mappedOf o n → staged x (t n) s .homographies ≡ homographies + (mappedOf o n + mapped x)
+      go s NoHomography e = unfold staged mapped in omega arith
+      go s (Graded g) e = unfold staged mapped in take (replaces (s .kept) g) g s e
+
+-- "how many had a homography": a stage adds the trials of it that have one
+pub stage-mapped : (img : Image) (f : FrameSpec) (q : Quad) (j : ℕ) (centre : Float) (tried homographies : ℕ)
+    → stageFrom img f q j centre tried homographies .homographies ≡ homographies + mappedOf (λ i. outcomeOf img f q (kAt j centre i)) (entries j)
+unfolding stageFrom
+stage-mapped img f q j centre tried homographies =
+    mapped-counted (λ i. outcomeOf img f q (kAt j centre i)) (λ i. fitFor (img .w) (img .h) f q (kAt j centre i)) tried homographies (entries j)

@@ -1,0 +1,5 @@
+-- Laws of the definitions.
+pub mod Entries
+pub mod Kept
+mod Cases
+pub mod Turning

@@ -1,0 +1,16 @@
+-- `search::stages::begun` meets its contract. Assumes nothing.
+use Rattle.search.specs.declared.Outcome.the-variants.{NoHomography}
+use Rattle.fit.specs.declared.GeometryFit.{GeometryFit}
+use mathlib.Core.Path.{ap}
+use borrow.Author.Needs.{needs}
+use Rattle.search.proofs.stages.begun.Statement.{statement}
+use Rattle.search.proofs.stages.begun.Tie as tie
+
+no-fit-requires : tie.Need-no-fit-requires
+no-fit-requires c κs = search needs
+
+returns : tie.Need-returns
+returns c = ap (λ (z : GeometryFit). record { kept = NoHomography; fit = z; tried = c .before .args .tried; homographies = c .before .args .homographies }) (c .no-fit .ensures)
+
+pub begun-spec : {M : Type 1} → statement M
+begun-spec = tie.close (tie.spec no-fit-requires returns)

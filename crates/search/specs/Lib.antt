@@ -1,0 +1,3 @@
+-- Definitions that the contracts of this crate cite.
+pub mod Stages
+pub mod Turn

@@ -1,0 +1,135 @@
+-- The lens search (document 01, "Lens search and warp"). Assumes nothing.
+use Prim.Native.Nat.{ℕ, zero, suc, _+_, _<_}
+use mathlib.Core.Path.{_≡_}
+use mathlib.Core.Bool.{Bool, true, false, cond, not}
+use lib.Dec.{T}
+use lib.Ieee.{Float, neg, lt, le}
+use Rattle.base.specs.Loops.{turns}
+use Rattle.float.specs.Floats.{_⊕_, _⊖_, _⊗_, _⊘_, f64, d64, roundOf, asUsize, clampOf}
+use Rattle.frame.specs.Image.{Image}
+use Rattle.fit.specs.Grid.{gradeOf, scoreOf}
+use Rattle.fit.specs.Fits.{fitsFor, fitFor, noFit}
+use Rattle.frame.specs.declared.FrameSpec.{FrameSpec}
+use Rattle.frame.specs.declared.Quad.{Quad}
+use Rattle.fit.specs.declared.GeometryFit.{GeometryFit}
+use Rattle.fit.specs.declared.Grade.{Grade}
+use Rattle.search.specs.declared.Outcome.{Outcome}
+use Rattle.search.specs.declared.Stage.{Stage}
+use Rattle.search.specs.declared.Outcome.the-variants.{NoHomography, Graded}
+
+-- `K_MAX`
+abbrev pub kMax : Float
+kMax = d64 20 100
+
+-- `K_STAGES`: half span and step of stage 0, 1 and 2
+unfoldable pub span : ℕ → Float
+span zero = kMax
+span (suc zero) = d64 12 1000
+span (suc (suc n)) = d64 15 10000
+
+unfoldable pub step : ℕ → Float
+step zero = d64 10 1000
+step (suc zero) = d64 12 10000
+step (suc (suc n)) = d64 2 10000
+
+-- "Stages of 41, 21 and 16 trials": 0 ..= n, where n is twice the span over the step, rounded
+unfoldable pub entries : ℕ → ℕ
+entries j = asUsize (roundOf (f64 2 ⊗ span j ⊘ step j)) + 1
+
+-- "k clamped to ±0.20": entry i of stage j around a centre
+unfoldable pub kAt : ℕ → Float → ℕ → Float
+kAt j centre i = clampOf (neg kMax) kMax (centre ⊖ span j ⊕ step j ⊗ f64 i)
+
+-- ---- a trial
+
+-- "A trial without homography is skipped; otherwise its outcome wraps a grade": the outcome of the trial of k
+unfoldable pub outcomeOf : Image → FrameSpec → Quad → Float → Outcome
+outcomeOf img f q k = cond (fitsFor (img .w) (img .h) f q k) (Graded (gradeOf img f (fitFor (img .w) (img .h) f q k))) NoHomography
+
+-- ---- a stage
+
+-- "Each stage begins with none kept and keeps its first trial with a homography. A later trial of that stage replaces the kept one only by scoring more."
+unfoldable pub replaces : Outcome → Grade → Bool
+replaces NoHomography g = true
+replaces (Graded b) g = lt (scoreOf b) (scoreOf g)
+
+-- the stage after one more trial with a homography: this one is kept, or the one kept before
+abbrev pub takes : Grade → GeometryFit → Stage → Stage
+takes g t s = record { kept = Graded g; fit = t; tried = s .tried + 1; homographies = s .homographies + 1 }
+
+abbrev pub stays : Stage → Stage
+stays s = record { kept = s .kept; fit = s .fit; tried = s .tried + 1; homographies = s .homographies + 1 }
+
+-- the stage after one more trial, which had the outcome o and the fit t
+unfoldable pub staged : Outcome → GeometryFit → Stage → Stage
+staged NoHomography t s = record { kept = s .kept; fit = s .fit; tried = s .tried + 1; homographies = s .homographies }
+staged (Graded g) t s = cond (replaces (s .kept) g) (takes g t s) (stays s)
+
+-- entry i of stage j around a centre
+abbrev pub trialStep : Image → FrameSpec → Quad → ℕ → Float → ℕ → Stage → Stage
+trialStep img f q j centre i s = staged (outcomeOf img f q (kAt j centre i)) (fitFor (img .w) (img .h) f q (kAt j centre i)) s
+
+-- none kept, with the counts of the stages before
+abbrev pub begun : ℕ → ℕ → Stage
+begun tried homographies = record { kept = NoHomography; fit = noFit; tried = tried; homographies = homographies }
+
+unfoldable pub stageFrom : Image → FrameSpec → Quad → ℕ → Float → ℕ → ℕ → Stage
+stageFrom img f q j centre tried homographies = turns (entries j) (trialStep img f q j centre) (begun tried homographies)
+
+-- a stage has kept a trial
+unfoldable pub keeps : Outcome → Bool
+keeps NoHomography = false
+keeps (Graded g) = true
+
+-- ---- the three stages: "the second and third around the k kept before"; a stage that keeps none is the last
+
+abbrev pub onKept : Outcome → Stage → Stage → Stage
+onKept NoHomography s next = s
+onKept (Graded g) s next = next
+
+unfoldable pub nextStage : Image → FrameSpec → Quad → ℕ → Stage → Stage
+nextStage img f q j s = onKept (s .kept) s (stageFrom img f q j (s .fit .radial .k) (s .tried) (s .homographies))
+
+unfoldable pub firstStage : Image → FrameSpec → Quad → Stage
+firstStage img f q = stageFrom img f q 0 (f64 0) 0 0
+
+unfoldable pub secondStage : Image → FrameSpec → Quad → Stage
+secondStage img f q = nextStage img f q 1 (firstStage img f q)
+
+unfoldable pub searched : Image → FrameSpec → Quad → Stage
+searched img f q = nextStage img f q 2 (secondStage img f q)
+
+-- the centre of the last stage: "around the k kept before"
+unfoldable pub lastCentre : Image → FrameSpec → Quad → Float
+lastCentre img f q = secondStage img f q .fit .radial .k
+
+-- "a stage in which no trial has" a homography
+abbrev pub Barren : Image → FrameSpec → Quad → ℕ → Float → Type 0
+Barren img f q j centre = (i : ℕ) → i < entries j → T (not (fitsFor (img .w) (img .h) f q (kAt j centre i)))
+
+pub data BarrenStage (img : Image) (f : FrameSpec) (q : Quad) : Type 0 where
+  first : Barren img f q 0 (f64 0) → BarrenStage img f q
+  second : T (keeps (firstStage img f q .kept)) → Barren img f q 1 (firstStage img f q .fit .radial .k) → BarrenStage img f q
+  third : T (keeps (secondStage img f q .kept)) → Barren img f q 2 (lastCentre img f q) → BarrenStage img f q
+
+-- ---- the kept trial of a stage, by meaning
+
+-- "outside and too few as −∞ .. and a trial without homography has no score": a scores more than b, and as much
+unfoldable pub more : Outcome → Outcome → Bool
+more NoHomography b = false
+more (Graded a) NoHomography = false
+more (Graded a) (Graded b) = lt (scoreOf b) (scoreOf a)
+
+unfoldable pub asMuch : Outcome → Outcome → Bool
+asMuch NoHomography b = false
+asMuch (Graded a) NoHomography = false
+asMuch (Graded a) (Graded b) = le (scoreOf b) (scoreOf a)
+
+-- "The reported fit is a trial of the last lens stage ... No other trial of that stage scores more, and no earlier one as much."
+pub record BestTrial (img : Image) (f : FrameSpec) (q : Quad) (j : ℕ) (centre : Float) (fit : GeometryFit) : Type 0 where
+  pub entry : ℕ
+  pub of-stage : entry < entries j
+  pub has-homography : T (fitsFor (img .w) (img .h) f q (kAt j centre entry))
+  pub is : fit ≡ fitFor (img .w) (img .h) f q (kAt j centre entry)
+  pub none-more : (i : ℕ) → i < entries j → T (not (more (outcomeOf img f q (kAt j centre i)) (outcomeOf img f q (kAt j centre entry))))
+  pub none-earlier : (i : ℕ) → i < entry → T (not (asMuch (outcomeOf img f q (kAt j centre i)) (outcomeOf img f q (kAt j centre entry))))

@@ -1,0 +1,185 @@
+//! bench [RUNS]: the library and the original on the same pictures, thread CPU time in milliseconds.
+//!
+//! First the bench picture, a row a phase; each figure is the median of RUNS runs (default 21) and, beside it, the least. A phase
+//! inside a door is the difference of two doors, on both sides: planes and ring rule is fiducial_candidates without label_blobs,
+//! lens search is fit_geometry without detect_fiducials. Areas are warm: lent again for each run. The row `areas made anew` lends
+//! fresh ones each time, as the original makes its own. The ratio, the row's last number, is that of the medians.
+//! Then cost against size, and against the number of patches.
+
+use driver::clock::cpu_ms;
+use driver::original::{image, numbers, spec};
+use driver::{kinds, Case, Memory};
+use flatten::ffi;
+use lpcore::geometry as g;
+use lpcorepub::geometry as inner;
+use std::hint::black_box;
+
+/// Keeps a result from being left out.
+fn done<T>(result: T) {
+    black_box(result);
+}
+
+#[derive(Clone, Copy)]
+struct Time {
+    median: f64,
+    least: f64,
+}
+
+fn summary(mut times: Vec<f64>) -> Time {
+    times.sort_by(f64::total_cmp);
+    Time { median: times[times.len() / 2], least: times[0] }
+}
+
+/// Both sides in turn, so that a slow spell of the machine hits both.
+fn both(runs: usize, mut ours: impl FnMut(), mut theirs: impl FnMut()) -> (Time, Time) {
+    let (mut a, mut b) = (Vec::new(), Vec::new());
+    ours();
+    theirs();
+    for _ in 0..runs {
+        for (times, f) in [(&mut a, &mut ours as &mut dyn FnMut()), (&mut b, &mut theirs)] {
+            let start = cpu_ms();
+            f();
+            times.push(cpu_ms() - start);
+        }
+    }
+    (summary(a), summary(b))
+}
+
+fn less((a, b): (Time, Time), (c, d): (Time, Time)) -> (Time, Time) {
+    let minus = |x: Time, y: Time| Time { median: x.median - y.median, least: x.least - y.least };
+    (minus(a, c), minus(b, d))
+}
+
+fn row(name: &str, (ours, theirs): (Time, Time)) {
+    println!(
+        "| {name} | {:.3} | {:.3} | {:.3} | {:.3} | {:.2} |",
+        ours.median,
+        ours.least,
+        theirs.median,
+        theirs.least,
+        ours.median / theirs.median
+    );
+}
+
+fn head(what: &str) {
+    println!("| {what} | tablet, median | least | original, median | least | ratio |\n|---|---|---|---|---|---|");
+}
+
+fn rectify(c: &Case, m: &mut Memory) -> u32 {
+    let (mut counts, mut fit) = ([0; ffi::COUNTS_LEN], [0.0; ffi::SCORED_FIT_LEN]);
+    let (mut areas, means, canonical) = m.lend();
+    ffi::rectify(&c.data, c.w, c.h, c.frame, &mut areas, means, canonical, &mut counts, &mut fit)
+}
+
+fn whole(c: &Case, runs: usize) -> (Time, Time) {
+    let (img, f) = (image(c), spec(c.frame));
+    let mut m = Memory::new(c.w, c.h, c.frame);
+    both(runs, || done(rectify(c, &mut m)), || done(g::rectify(&img, &f)))
+}
+
+fn phases(c: &Case, runs: usize) {
+    let (img, f) = (image(c), spec(c.frame));
+    let fit = g::fit_geometry(&img, &f).expect("the bench picture is accepted");
+    let fit_numbers = numbers(&fit);
+    let mut m = Memory::new(c.w, c.h, c.frame);
+    let (mut counts, mut out) = ([0; ffi::COUNTS_LEN], [0.0; ffi::SCORED_FIT_LEN]);
+    let (w, h) = (c.w, c.h);
+
+    let look = both(
+        runs,
+        || done(ffi::fiducial_candidates(&c.data, w, h, c.frame, &mut m.lend().0, &mut counts)),
+        || done(g::fiducial_candidates(&img, &f)),
+    );
+    let mask = m.mask.clone();
+    let bools: Vec<bool> = mask.iter().map(|&d| d != 0).collect();
+    let label = both(
+        runs,
+        || done(ffi::label_blobs(&mask, w, h, &mut m.seen, &mut m.waiting, &mut m.patches, &mut counts)),
+        || done(inner::label_blobs(&bools, w, h)),
+    );
+    let detect = both(
+        runs,
+        || done(ffi::detect_fiducials(&c.data, w, h, c.frame, &mut m.lend().0, &mut counts, &mut out)),
+        || done(g::detect_fiducials(&img, &f)),
+    );
+    let fits = both(
+        runs,
+        || {
+            let (mut areas, means, _) = m.lend();
+            done(ffi::fit_geometry(&c.data, w, h, c.frame, &mut areas, means, &mut counts, &mut out))
+        },
+        || done(g::fit_geometry(&img, &f)),
+    );
+    let (mut grade, mut score) = ([0; 2], [0.0]);
+    let scores = both(
+        runs,
+        || done(ffi::grid_score(&c.data, w, h, c.frame, &fit_numbers, &mut m.means, &mut grade, &mut score)),
+        || done(g::grid_score(&img, &f, &fit)),
+    );
+    let warp =
+        both(runs, || done(ffi::warp_with(&c.data, w, h, c.frame, &fit_numbers, &mut m.canonical)), || done(g::warp_with(&img, &f, &fit)));
+    let anew = both(runs, || done(rectify(c, &mut Memory::new(w, h, c.frame))), || done(g::rectify(&img, &f)));
+
+    head("phase");
+    row("planes and ring rule", less(look, label));
+    row("label_blobs", label);
+    row("fiducial_candidates", look);
+    row("detect_fiducials", detect);
+    row("lens search", less(fits, detect));
+    row("grid_score", scores);
+    row("fit_geometry", fits);
+    row("warp_with", warp);
+    row("areas made anew", anew);
+    row("rectify", whole(c, runs));
+    println!();
+}
+
+/// The bench card in a picture of other sides.
+fn sized(w: usize, h: usize) -> Case {
+    let mut s = scene::bench(1);
+    let card = s.card.clone();
+    let k = s.k;
+    s = scene::Scene::straight(w, h, card, 0.9);
+    s.k = k;
+    Case { w, h, frame: kinds::frame(s.card.frame), data: s.take() }
+}
+
+/// A grating over the bench card: the wider its pitch, the fewer patches.
+fn grated(pitch: f64) -> Case {
+    let mut s = scene::bench(1);
+    s.samples = 1;
+    s.noise = 0.0;
+    s.card.cells = scene::Cells::Flat([90.0; 3]);
+    s.card.margin = [60.0; 3];
+    s.grating =
+        (pitch > 0.0).then_some(scene::Grating { pitch: [pitch; 2], bar: 2.0f64.max(pitch / 2.0), turn: 0.0, light: 45.0, top: 0.0 });
+    Case { w: s.w, h: s.h, frame: kinds::frame(s.card.frame), data: s.take() }
+}
+
+fn main() {
+    let runs = std::env::args().nth(1).map_or(Ok(21), |a| a.parse());
+    let Ok(runs @ 1..) = runs else {
+        eprintln!("usage: bench [RUNS]");
+        std::process::exit(2)
+    };
+    let bench = scene::bench(1);
+    let c = Case { w: bench.w, h: bench.h, frame: kinds::frame(bench.card.frame), data: bench.take() };
+    println!("Thread CPU time in ms, {runs} runs.\n");
+    phases(&c, runs);
+
+    head("rectify, by size");
+    for (w, h) in [(320, 240), (640, 480), (1280, 720), (1920, 1080), (2048, 2048), (4096, 4096)] {
+        let c = sized(w, h);
+        row(&format!("{w} by {h}"), whole(&c, if w * h > 2_000_000 { runs.min(5) } else { runs }));
+    }
+    println!();
+
+    head("rectify, by patches");
+    for pitch in [0.0, 32.0, 16.0, 8.0, 4.0] {
+        let c = grated(pitch);
+        let mut m = Memory::new(c.w, c.h, c.frame);
+        let mut counts = [0; ffi::LISTED_LEN];
+        ffi::fiducial_candidates(&c.data, c.w, c.h, c.frame, &mut m.lend().0, &mut counts);
+        row(&format!("{} patches", counts[ffi::PATCHES]), whole(&c, runs));
+    }
+}

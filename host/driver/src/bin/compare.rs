@@ -1,0 +1,166 @@
+//! compare SEED COUNT [PART]: COUNT captures, 500·COUNT point sets and 50·COUNT damaged calls on the library and on the original;
+//! or one PART of these: captures, points or damage.
+//! compare replay FILE: once more what a file of an earlier difference holds.
+//! Exit status 0 without a difference, 1 with one, 2 bad usage.
+
+use driver::{captures, damage, direct, kinds, Case};
+use scene::Random;
+use std::collections::BTreeMap;
+use std::fs;
+use std::path::PathBuf;
+use std::process::exit;
+
+/// Where the first difference is kept, beside the executable.
+fn kept(name: &str) -> PathBuf {
+    let folder = std::env::current_exe().ok().and_then(|p| p.parent().map(PathBuf::from)).unwrap_or_default();
+    folder.join(name)
+}
+
+fn differ(what: String, name: &str, content: &[u8]) -> ! {
+    let path = kept(name);
+    println!("difference: {what}");
+    match fs::write(&path, content) {
+        Ok(()) => println!("reproduced by: host/compare replay {}", path.display()),
+        Err(e) => println!("it could not be kept: {}: {e}", path.display()),
+    }
+    exit(1)
+}
+
+/// P6 with the frame in a comment, so that `flatten --frame` takes the same file.
+fn picture(c: &Case) -> Vec<u8> {
+    let mut out = format!("P6\n# frame {}\n{} {}\n255\n", c.frame, c.w, c.h).into_bytes();
+    out.extend(&c.data);
+    out
+}
+
+fn one_capture(seed: u64, kind: kinds::Kind, table: &mut BTreeMap<&'static str, BTreeMap<u32, usize>>) {
+    let c = kind.1(&mut Random::new(seed));
+    match captures::check(&c) {
+        Ok(number) => *table.entry(kind.0).or_default().entry(number).or_default() += 1,
+        Err(e) => differ(format!("{} capture of seed {seed}: {e}", kind.0), "difference.ppm", &picture(&c)),
+    }
+}
+
+fn run_captures(seed: u64, count: usize) {
+    let mut table = BTreeMap::new();
+    for i in 0..count {
+        let kind = match i {
+            i if i % 1000 == 999 => kinds::LARGEST,
+            i if i % 50 == 49 => kinds::BENCH,
+            _ => kinds::KINDS[i % kinds::KINDS.len()],
+        };
+        one_capture(scene::mix(seed.wrapping_add(i as u64)), kind, &mut table);
+        if i % 200 == 199 {
+            eprintln!("compare: {} of {count} captures", i + 1);
+        }
+    }
+    println!("| captures | compared | accepted | refused, by number |\n|---|---|---|---|");
+    let mut sum = [0, 0];
+    for (kind, numbers) in &table {
+        let all: usize = numbers.values().sum();
+        let accepted = numbers.get(&0).copied().unwrap_or(0);
+        sum = [sum[0] + all, sum[1] + accepted];
+        let refused: Vec<String> = numbers.iter().filter(|(n, _)| **n != 0).map(|(n, c)| format!("{n}: {c}")).collect();
+        println!("| {kind} | {all} | {accepted} | {} |", refused.join(", "));
+    }
+    println!("| all | {} | {} | |\n", sum[0], sum[1]);
+}
+
+fn call_text(name: &str, words: &[u64]) -> String {
+    let words: Vec<String> = words.iter().map(|w| format!("{w:016x}")).collect();
+    format!("{name} {}\n", words.join(" "))
+}
+
+fn run_direct(seed: u64, count: usize) {
+    println!("| function | calls compared |\n|---|---|");
+    for (name, share, make) in direct::DOORS {
+        let mut r = Random::new(scene::mix(seed ^ name.bytes().fold(0, |s, b| s * 31 + b as u64)));
+        let calls = (count * share / 1000).max(1);
+        for _ in 0..calls {
+            let words = make(&mut r);
+            if let Err(e) = direct::check(name, &words) {
+                differ(format!("{name}: {e}"), "difference.txt", call_text(name, &words).as_bytes());
+            }
+        }
+        println!("| {name} | {calls} |");
+    }
+    println!();
+}
+
+fn run_damage(seed: u64, count: usize) {
+    let pool = damage::Pool::new(seed);
+    let mut table: BTreeMap<damage::Door, BTreeMap<u32, usize>> = BTreeMap::new();
+    for i in 0..count {
+        let s = scene::mix(seed.wrapping_add(i as u64));
+        let (door, result) = damage::check(&pool, s);
+        match result {
+            Ok(number) => *table.entry(door).or_default().entry(number).or_default() += 1,
+            Err(e) => differ(format!("damaged call of {door:?}: {e}"), "difference.txt", call_text("damage", &[seed, s]).as_bytes()),
+        }
+        if i % 10000 == 9999 {
+            eprintln!("compare: {} of {count} damaged calls", i + 1);
+        }
+    }
+    println!("| damaged calls of | calls | by number |\n|---|---|---|");
+    let mut sum = 0;
+    for (door, numbers) in &table {
+        let all: usize = numbers.values().sum();
+        sum += all;
+        let each: Vec<String> = numbers.iter().map(|(n, c)| format!("{n}: {c}")).collect();
+        println!("| {door:?} | {all} | {} |", each.join(", "));
+    }
+    println!("| all | {sum} | |\n");
+}
+
+fn replay(path: &str) -> Result<(), String> {
+    let content = fs::read(path).map_err(|e| format!("{path}: {e}"))?;
+    if content.starts_with(b"P6") {
+        let p = flatten::p6::read(&mut &content[..]).map_err(|e| format!("{path}: {e}"))?;
+        let head = String::from_utf8_lossy(&content[..content.len().min(100)]).into_owned();
+        let frame = head.lines().find_map(|l| l.strip_prefix("# frame ")).ok_or(format!("{path}: no comment `# frame W,H,CELL,MARGIN`"))?;
+        let c = Case { w: p.w, h: p.h, frame: frame.parse()?, data: p.data };
+        return captures::check(&c).map(|number| println!("no difference: {number} on both sides"));
+    }
+    let text = String::from_utf8(content).map_err(|_| format!("{path} is no file of a difference"))?;
+    let mut parts = text.split_whitespace();
+    let name = parts.next().ok_or(format!("{path} is empty"))?;
+    let words: Vec<u64> = parts.map(|w| u64::from_str_radix(w, 16).map_err(|e| format!("{path}: {w}: {e}"))).collect::<Result<_, _>>()?;
+    if name == "damage" && words.len() == 2 {
+        let (door, result) = damage::check(&damage::Pool::new(words[0]), words[1]);
+        return result.map(|number| println!("no difference: {door:?} gives {number}"));
+    }
+    direct::check(name, &words).map(|()| println!("no difference in {name}"))
+}
+
+/// Name, what runs it, and how many for each capture.
+type Part = (&'static str, fn(u64, usize), usize);
+
+fn main() {
+    let args: Vec<String> = std::env::args().skip(1).collect();
+    let args: Vec<&str> = args.iter().map(String::as_str).collect();
+    match args[..] {
+        ["replay", path] => {
+            if let Err(e) = replay(path) {
+                println!("difference: {e}");
+                exit(1)
+            }
+        }
+        [seed, count, ref part @ ..] if part.len() <= 1 => {
+            let (Ok(seed), Ok(count)) = (seed.parse::<u64>(), count.parse::<usize>()) else { usage() };
+            let parts: [Part; 3] = [("captures", run_captures, 1), ("points", run_direct, 500), ("damage", run_damage, 50)];
+            if part.iter().any(|p| parts.iter().all(|(name, ..)| name != p)) {
+                usage()
+            }
+            for (_, run, share) in parts.iter().filter(|(name, ..)| part.is_empty() || part[0] == *name) {
+                run(seed, share * count);
+            }
+            println!("no difference");
+        }
+        _ => usage(),
+    }
+}
+
+fn usage() -> ! {
+    eprintln!("usage: compare SEED COUNT [captures|points|damage] | compare replay FILE");
+    exit(2)
+}

@@ -1,0 +1,455 @@
+//! Calls with frames, captures and areas of any numbers and lengths. The refusal must be the lowest number, what must stay
+//! untouched is compared byte by byte, and two runs must agree: the second has other garbage in areas of the smallest lengths.
+
+use crate::original;
+use crate::{kinds, sizes, Case, Memory};
+use flatten::{ffi, Frame};
+use scene::Random;
+
+/// The doors that take lent areas.
+#[derive(Clone, Copy, Debug, PartialEq, Eq, PartialOrd, Ord)]
+pub enum Door {
+    Rectify,
+    FitGeometry,
+    DetectFiducials,
+    FiducialCandidates,
+    LabelBlobs,
+    GridScore,
+    WarpWith,
+    StampFiducials,
+    MarkerCenters,
+    FitFor,
+    Lengths,
+    Bilinear,
+}
+
+const DOORS: &[Door] = &[
+    Door::Rectify,
+    Door::Rectify,
+    Door::Rectify,
+    Door::Rectify,
+    Door::Rectify,
+    Door::FitGeometry,
+    Door::DetectFiducials,
+    Door::FiducialCandidates,
+    Door::LabelBlobs,
+    Door::GridScore,
+    Door::WarpWith,
+    Door::StampFiducials,
+    Door::MarkerCenters,
+    Door::FitFor,
+    Door::Lengths,
+    Door::Bilinear,
+];
+
+/// All that a call is handed.
+#[derive(Clone)]
+struct Call {
+    door: Door,
+    case: Case,
+    memory: Memory,
+    counts: Vec<u64>,
+    numbers: Vec<f64>,
+    colour: Vec<u8>,
+    /// A fit or points, handed in.
+    given: Vec<f64>,
+}
+
+/// Captures with the original's answers.
+pub struct Pool(Vec<(Case, u32)>);
+
+impl Pool {
+    pub fn new(seed: u64) -> Pool {
+        let mut r = Random::new(seed);
+        let from = [kinds::small, kinds::small, kinds::ties, kinds::degenerate, kinds::noise, kinds::outside];
+        let mut cases = Vec::new();
+        while cases.len() < 96 {
+            let mut c = from[cases.len() % from.len()](&mut r);
+            // Few cells make a fit quick; the markers are the same.
+            c.frame.cell = r.between(4, 9);
+            if c.w * c.h <= 20000 {
+                let number = original::answer(&c).number;
+                cases.push((c, number));
+            }
+        }
+        Pool(cases)
+    }
+}
+
+fn side(n: usize) -> bool {
+    (1..=4096).contains(&n)
+}
+
+fn frame_outside(f: Frame) -> bool {
+    !(side(f.width) && side(f.height) && (1..=512).contains(&f.cell) && f.margin <= 4096)
+}
+
+/// The lowest refusal, by document 01: a list of numbers and whether each applies. `seen` is the original's number for what passes
+/// 1 to 6.
+fn lowest(c: &Call, seen: u32) -> u32 {
+    let (f, m, case) = (c.case.frame, &c.memory, &c.case);
+    let frame_bad = frame_outside(f);
+    let sides_bad = !(side(case.w) && side(case.h));
+    let capture_bad = sides_bad || case.data.len() != 3 * case.w * case.h;
+    if frame_bad || sides_bad {
+        // Sizes can only be worked out inside the limits.
+        let frame_counts = !matches!(c.door, Door::LabelBlobs | Door::Bilinear);
+        let sides_count = c.door != Door::MarkerCenters;
+        if frame_bad && frame_counts {
+            return 1;
+        }
+        if sides_bad && sides_count {
+            return 2;
+        }
+    }
+    let frame = if frame_bad { Frame::BENCH } else { f };
+    let s = if sides_bad { sizes(1, 1, frame) } else { sizes(case.w, case.h, frame) };
+    let quiet = (8 * frame.cell).clamp(72, 96) / 6;
+    let no_layout = frame.margin < 2 * quiet + 24 || frame.width < 4 * frame.margin || frame.height < 4 * frame.margin;
+    let look_short = m.luma.len() < s.pixels
+        || m.integral.len() < s.integral
+        || m.mask.len() < s.pixels
+        || m.seen.len() < s.pixels
+        || m.waiting.len() < s.pixels
+        || m.patches.len() < 7 * s.patches
+        || m.candidates.len() < 4 * s.candidates
+        || m.blob_index.len() < s.candidates;
+    let means_short = m.means.len() < s.means;
+    let card_wrong = m.canonical.len() != s.canonical;
+    let tiny = case.w < 32 || case.h < 32;
+    let (counts, numbers, given) = (c.counts.len(), c.numbers.len(), c.given.len());
+    let tests: &[(u32, bool)] = &match c.door {
+        Door::Rectify => vec![
+            (2, capture_bad),
+            (3, look_short || means_short || counts < 11 || numbers < 14),
+            (4, card_wrong),
+            (5, no_layout),
+            (6, tiny),
+            (seen, seen >= 7),
+        ],
+        Door::FitGeometry => {
+            vec![
+                (2, capture_bad),
+                (3, look_short || means_short || counts < 11 || numbers < 14),
+                (5, no_layout),
+                (6, tiny),
+                (seen, seen >= 7),
+            ]
+        }
+        Door::DetectFiducials => {
+            vec![(2, capture_bad), (3, look_short || counts < 7 || numbers < 8), (5, no_layout), (6, tiny), (seen, (7..10).contains(&seen))]
+        }
+        Door::FiducialCandidates => vec![(2, capture_bad), (3, look_short || counts < 3), (5, no_layout), (6, tiny)],
+        Door::LabelBlobs => vec![
+            (2, m.mask.len() != s.pixels),
+            (3, m.seen.len() < s.pixels || m.waiting.len() < s.pixels || m.patches.len() < 7 * s.patches || counts < 2),
+        ],
+        Door::GridScore => vec![(2, capture_bad), (3, given < 13 || means_short || counts < 2 || numbers < 1)],
+        Door::WarpWith => vec![(2, capture_bad), (3, given < 13), (4, card_wrong)],
+        Door::StampFiducials => vec![(2, capture_bad), (5, no_layout)],
+        Door::MarkerCenters => vec![(3, numbers < 8), (5, no_layout)],
+        // The points of FitFor are never degenerate here.
+        Door::FitFor => vec![(3, given < 8 || numbers < 13), (5, no_layout)],
+        Door::Lengths => vec![(3, counts < 11)],
+        Door::Bilinear => vec![(2, capture_bad), (3, c.colour.len() < 3)],
+    };
+    tests.iter().filter(|(_, holds)| *holds).map(|(n, _)| *n).min().unwrap_or(0)
+}
+
+fn run(c: &mut Call) -> u32 {
+    let (w, h, f) = (c.case.w, c.case.h, c.case.frame);
+    let capture = &mut c.case.data;
+    let (mut areas, means, canonical) = c.memory.lend();
+    match c.door {
+        Door::Rectify => ffi::rectify(capture, w, h, f, &mut areas, means, canonical, &mut c.counts, &mut c.numbers),
+        Door::FitGeometry => ffi::fit_geometry(capture, w, h, f, &mut areas, means, &mut c.counts, &mut c.numbers),
+        Door::DetectFiducials => ffi::detect_fiducials(capture, w, h, f, &mut areas, &mut c.counts, &mut c.numbers),
+        Door::FiducialCandidates => ffi::fiducial_candidates(capture, w, h, f, &mut areas, &mut c.counts),
+        Door::LabelBlobs => ffi::label_blobs(areas.mask, w, h, areas.seen, areas.waiting, areas.patches, &mut c.counts),
+        Door::GridScore => ffi::grid_score(capture, w, h, f, &c.given, means, &mut c.counts, &mut c.numbers),
+        Door::WarpWith => ffi::warp_with(capture, w, h, f, &c.given, canonical),
+        Door::StampFiducials => ffi::stamp_fiducials(capture, w, h, f),
+        Door::MarkerCenters => ffi::marker_centers(f, &mut c.numbers),
+        Door::FitFor => ffi::fit_for(w, h, f, &c.given, 0.01, &mut c.numbers),
+        Door::Lengths => ffi::lengths(w, h, f, &mut c.counts),
+        Door::Bilinear => ffi::bilinear(capture, w, h, 1.25, 0.75, &mut c.colour),
+    }
+}
+
+/// How many entries of each area, from the first on, a call may have written.
+struct Written {
+    pixels: usize,
+    integral: usize,
+    patches: usize,
+    candidates: usize,
+    means: usize,
+}
+
+/// How long an area is: mostly right, else one short, longer, or nothing.
+fn length(r: &mut Random, right: usize, wrong: f64) -> usize {
+    if !r.chance(wrong) {
+        return right + if r.chance(0.2) { r.between(1, 9) } else { 0 };
+    }
+    match r.below(3) {
+        0 => right.saturating_sub(1),
+        1 => 0,
+        _ => r.below(right + 1),
+    }
+}
+
+fn exact(r: &mut Random, right: usize, wrong: f64) -> usize {
+    if r.chance(wrong) {
+        r.one_of(&[right + 1, right.saturating_sub(1), 0, right + 9])
+    } else {
+        right
+    }
+}
+
+/// Most calls have nothing wrong or one thing; some have anything.
+fn call(r: &mut Random, pool: &Pool) -> (Call, u32) {
+    let (case, number) = &pool.0[r.below(pool.0.len())];
+    let (mut case, mut number) = (case.clone(), *number);
+    let wrong = r.one_of(&[0.0, 0.0, 0.05, 0.05, 0.3]);
+    let door = r.one_of(DOORS);
+    let true_case = case.clone();
+    let far = [0, 4097, 5000, usize::MAX, usize::MAX / 2 + 1, 1 << 32];
+    if r.chance(wrong) {
+        match r.below(6) {
+            0 => case.frame.width = r.one_of(&far),
+            1 => case.frame.height = r.one_of(&far),
+            2 => case.frame.cell = r.one_of(&[0, 513, 4096, usize::MAX]),
+            3 => case.frame.margin = r.one_of(&[4097, usize::MAX, usize::MAX / 2 + 1]),
+            // Inside the limits, with no room for markers.
+            4 => case.frame.margin = r.one_of(&[0, 23, 47, 200, 4096]),
+            _ => case.frame.width = r.between(1, 191),
+        }
+    }
+    if r.chance(wrong) {
+        match r.below(4) {
+            0 => case.w = r.one_of(&far),
+            1 => case.h = r.one_of(&far),
+            2 => case.w = r.between(1, 4096),
+            _ => std::mem::swap(&mut case.w, &mut case.h),
+        }
+    }
+    let data_len = exact(r, case.data.len(), wrong);
+    case.data.resize(data_len, 9);
+    // Areas by the sizes that are right for the capture as it was, or as it now is where those are small.
+    let in_limits = side(case.w) && side(case.h) && !frame_outside(case.frame);
+    let s = if in_limits && case.w * case.h <= 40000 {
+        sizes(case.w, case.h, case.frame)
+    } else {
+        sizes(true_case.w, true_case.h, true_case.frame)
+    };
+    let mask_len = if door == Door::LabelBlobs { exact(r, s.pixels, wrong) } else { length(r, s.pixels, wrong) };
+    let memory = Memory {
+        luma: vec![0.0; length(r, s.pixels, wrong)],
+        integral: vec![0.0; length(r, s.integral, wrong)],
+        mask: vec![0; mask_len],
+        seen: vec![0; length(r, s.pixels, wrong)],
+        waiting: vec![0; length(r, s.pixels, wrong)],
+        patches: vec![0; length(r, 7 * s.patches, wrong)],
+        candidates: vec![0.0; length(r, 4 * s.candidates, wrong)],
+        blob_index: vec![0; length(r, s.candidates, wrong)],
+        means: vec![0.0; length(r, s.means, wrong)],
+        canonical: vec![0; exact(r, s.canonical, wrong)],
+    };
+    let counts_len = match door {
+        Door::Rectify | Door::FitGeometry | Door::Lengths => 11,
+        Door::DetectFiducials => 7,
+        Door::FiducialCandidates => 3,
+        Door::LabelBlobs | Door::GridScore => 2,
+        _ => 0,
+    };
+    let numbers_len = match door {
+        Door::Rectify | Door::FitGeometry => 14,
+        Door::FitFor => 13,
+        Door::DetectFiducials | Door::MarkerCenters => 8,
+        Door::GridScore => 1,
+        _ => 0,
+    };
+    let mut given = match door {
+        Door::FitFor => vec![10.0, 11.0, 80.0, 12.0, 83.0, 90.0, 9.0, 85.0],
+        _ => vec![0.5, 0.01, 3.0, -0.01, 0.5, 4.0, 1e-4, -1e-4, 1.0, r.within(-0.2, 0.2), 50.0, 50.0, 70.0],
+    };
+    let given_len = length(r, given.len(), wrong);
+    given.resize(given_len, 0.25);
+    let c = Call {
+        door,
+        memory,
+        counts: vec![0; length(r, counts_len, wrong)],
+        numbers: vec![0.0; length(r, numbers_len, wrong)],
+        colour: vec![0; length(r, 3, wrong)],
+        given,
+        case,
+    };
+    // A call that passes 1 to 6 has the original's answer to what it is now handed.
+    let same = c.case.frame == true_case.frame && (c.case.w, c.case.h) == (true_case.w, true_case.h) && c.case.data == true_case.data;
+    if !same && lowest(&c, 0) == 0 && matches!(door, Door::Rectify | Door::FitGeometry | Door::DetectFiducials) {
+        number = original::answer(&c.case).number;
+    }
+    (c, number)
+}
+
+/// The smallest areas that do: what longer ones are compared with.
+fn shorten(c: &mut Call) {
+    let f = if frame_outside(c.case.frame) { Frame::BENCH } else { c.case.frame };
+    let s = if side(c.case.w) && side(c.case.h) { sizes(c.case.w, c.case.h, f) } else { sizes(1, 1, f) };
+    let m = &mut c.memory;
+    m.luma.truncate(s.pixels);
+    m.integral.truncate(s.integral);
+    m.mask.truncate(s.pixels);
+    m.seen.truncate(s.pixels);
+    m.waiting.truncate(s.pixels);
+    m.patches.truncate(7 * s.patches);
+    m.candidates.truncate(4 * s.candidates);
+    m.blob_index.truncate(s.candidates);
+    m.means.truncate(s.means);
+}
+
+fn garbage(c: &mut Call, r: &mut Random) {
+    let m = &mut c.memory;
+    m.luma.iter_mut().for_each(|v| *v = f32::from_bits(r.bits() as u32));
+    m.integral.iter_mut().for_each(|v| *v = f64::from_bits(r.bits()));
+    m.seen.iter_mut().for_each(|v| *v = r.bits() as u8);
+    m.waiting.iter_mut().for_each(|v| *v = r.bits() as u32);
+    m.patches.iter_mut().for_each(|v| *v = r.bits());
+    m.candidates.iter_mut().for_each(|v| *v = f64::from_bits(r.bits()));
+    m.blob_index.iter_mut().for_each(|v| *v = r.bits() as u32);
+    m.means.iter_mut().for_each(|v| *v = f64::from_bits(r.bits()));
+    m.canonical.iter_mut().for_each(|v| *v = r.bits() as u8);
+    c.counts.iter_mut().for_each(|v| *v = r.bits());
+    c.numbers.iter_mut().for_each(|v| *v = f64::from_bits(r.bits()));
+    c.colour.iter_mut().for_each(|v| *v = r.bits() as u8);
+    if c.door != Door::LabelBlobs {
+        c.memory.mask.iter_mut().for_each(|v| *v = r.bits() as u8);
+    }
+}
+
+/// What a door may write: each area's written entries, from 0. All else stays.
+fn written(c: &Call, number: u32) -> (Written, [usize; 3], usize) {
+    let nothing = Written { pixels: 0, integral: 0, patches: 0, candidates: 0, means: 0 };
+    if (1..=6).contains(&number) {
+        return (nothing, [0; 3], 0);
+    }
+    // A door that is not handed the frame, or the sides, can accept where they are outside their limits.
+    let f = if frame_outside(c.case.frame) { Frame::BENCH } else { c.case.frame };
+    let s = if side(c.case.w) && side(c.case.h) { sizes(c.case.w, c.case.h, f) } else { sizes(1, 1, f) };
+    let listed = |i: usize| c.counts[i] as usize;
+    let look = |means| Written {
+        pixels: s.pixels,
+        integral: s.integral,
+        patches: 7 * listed(ffi::PATCHES),
+        candidates: listed(ffi::CANDIDATES),
+        means,
+    };
+    let accepted = |n: usize| if number == 0 { n } else { 0 };
+    match c.door {
+        Door::Rectify => (look(s.means), [11, accepted(14), 0], accepted(s.canonical)),
+        Door::FitGeometry => (look(s.means), [11, accepted(14), 0], 0),
+        Door::DetectFiducials => (look(0), [7, accepted(8), 0], 0),
+        Door::FiducialCandidates => (look(0), [3, 0, 0], 0),
+        Door::LabelBlobs => (Written { pixels: s.pixels, patches: 7 * listed(0), ..nothing }, [2, 0, 0], 0),
+        Door::GridScore => (Written { means: s.means, ..nothing }, [2, 1, 0], 0),
+        Door::WarpWith => (nothing, [0; 3], s.canonical),
+        Door::MarkerCenters => (nothing, [0, accepted(8), 0], 0),
+        Door::FitFor => (nothing, [0, accepted(13), 0], 0),
+        Door::Lengths => (nothing, [11, 0, 0], 0),
+        Door::Bilinear => (nothing, [0, 0, 3], 0),
+        Door::StampFiducials => (nothing, [0; 3], 0),
+    }
+}
+
+fn kept<T: Copy, B: PartialEq>(what: &str, before: &[T], after: &[T], from: usize, bits: impl Fn(T) -> B) -> Result<(), String> {
+    match (from..before.len()).find(|&i| bits(before[i]) != bits(after[i])) {
+        None => Ok(()),
+        Some(i) => Err(format!("{what}: entry {i} of {} was touched (only those before {from} may be)", before.len())),
+    }
+}
+
+fn untouched(before: &Call, after: &Call, number: u32) -> Result<(), String> {
+    let (w, [counts, numbers, colour], canonical) = written(after, number);
+    let (a, b) = (&before.memory, &after.memory);
+    let labels = before.door == Door::LabelBlobs;
+    let planes = |n: usize| if labels { 0 } else { n };
+    kept("luma", &a.luma, &b.luma, planes(w.pixels), f32::to_bits)?;
+    kept("integral", &a.integral, &b.integral, w.integral, f64::to_bits)?;
+    kept("mask", &a.mask, &b.mask, planes(w.pixels), |v| v)?;
+    kept("marks", &a.seen, &b.seen, w.pixels, |v| v)?;
+    kept("waiting list", &a.waiting, &b.waiting, w.pixels, |v| v)?;
+    kept("patches", &a.patches, &b.patches, w.patches, |v| v)?;
+    kept("candidates", &a.candidates, &b.candidates, 4 * w.candidates, f64::to_bits)?;
+    kept("places", &a.blob_index, &b.blob_index, w.candidates, |v| v)?;
+    kept("means", &a.means, &b.means, w.means, f64::to_bits)?;
+    kept("canonical image", &a.canonical, &b.canonical, canonical, |v| v)?;
+    kept("counts", &before.counts, &after.counts, counts, |v| v)?;
+    kept("numbers", &before.numbers, &after.numbers, numbers, f64::to_bits)?;
+    kept("colour", &before.colour, &after.colour, colour, |v| v)?;
+    let stamped = before.door == Door::StampFiducials && number == 0;
+    kept("capture", &before.case.data, &after.case.data, if stamped { before.case.data.len() } else { 0 }, |v| v)
+}
+
+fn agreed<T: Copy, B: PartialEq>(what: &str, a: &[T], b: &[T], to: usize, bits: impl Fn(T) -> B) -> Result<(), String> {
+    match (0..to).find(|&i| bits(a[i]) != bits(b[i])) {
+        None => Ok(()),
+        Some(i) => Err(format!("{what}: entry {i} depends on what the areas held before")),
+    }
+}
+
+/// Two runs on other garbage: all but the waiting list and the means, which are free, is the same.
+fn agree(x: &Call, y: &Call, number: u32) -> Result<(), String> {
+    let (w, [counts, numbers, colour], canonical) = written(x, number);
+    agreed("counts", &x.counts, &y.counts, counts, |v| v)?;
+    let (a, b) = (&x.memory, &y.memory);
+    let planes = if x.door == Door::LabelBlobs { 0 } else { w.pixels };
+    agreed("luma", &a.luma, &b.luma, planes, f32::to_bits)?;
+    agreed("integral", &a.integral, &b.integral, w.integral, f64::to_bits)?;
+    agreed("mask", &a.mask, &b.mask, planes, |v| v)?;
+    agreed("marks", &a.seen, &b.seen, w.pixels, |v| v)?;
+    agreed("patches", &a.patches, &b.patches, w.patches, |v| v)?;
+    agreed("candidates", &a.candidates, &b.candidates, 4 * w.candidates, f64::to_bits)?;
+    agreed("places", &a.blob_index, &b.blob_index, w.candidates, |v| v)?;
+    agreed("canonical image", &a.canonical, &b.canonical, canonical, |v| v)?;
+    agreed("numbers", &x.numbers, &y.numbers, numbers, f64::to_bits)?;
+    agreed("colour", &x.colour, &y.colour, colour, |v| v)?;
+    agreed("capture", &x.case.data, &y.case.data, x.case.data.len(), |v| v)
+}
+
+/// One call, by its seed: the door and the number that came, or what is wrong.
+pub fn check(pool: &Pool, seed: u64) -> (Door, Result<u32, String>) {
+    let mut r = Random::new(seed);
+    let (mut first, seen) = call(&mut r, pool);
+    if first.door == Door::LabelBlobs {
+        let density = r.within(0.0, 1.0);
+        first.memory.mask.iter_mut().for_each(|v| *v = if r.chance(density) { r.bits() as u8 } else { 0 });
+    }
+    let wanted = lowest(&first, seen);
+    let mut second = first.clone();
+    if !(1..=6).contains(&wanted) {
+        shorten(&mut second);
+    }
+    garbage(&mut first, &mut r);
+    garbage(&mut second, &mut r);
+    let result = (|| {
+        let mut numbers = [0; 2];
+        for (number, c) in numbers.iter_mut().zip([&mut first, &mut second]) {
+            let before = c.clone();
+            *number = run(c);
+            if *number != wanted {
+                return Err(format!("refusal {number}, the lowest is {wanted}"));
+            }
+            untouched(&before, c, *number)?;
+        }
+        agree(&first, &second, wanted)?;
+        if first.door == Door::Lengths && wanted == 0 {
+            let s = sizes(first.case.w, first.case.h, first.case.frame);
+            let n = s.pixels;
+            let all = [3 * n, n, s.integral, n, n, n, 7 * s.patches, 4 * s.candidates, s.candidates, s.means, s.canonical];
+            if first.counts[..11] != all.map(|v| v as u64) {
+                return Err(format!("lengths {:?}, they are {all:?}", &first.counts[..11]));
+            }
+        }
+        Ok(wanted)
+    })();
+    (first.door, result)
+}

@@ -1,0 +1,232 @@
+//! The original's answers, with the refusal numbers that document 01 gives to its `None`s.
+
+use crate::{sampled, Case};
+use flatten::Frame;
+use lpcore::frame::FrameSpec;
+use lpcore::geometry as g;
+use lpcore::image::RgbImage;
+use lpcorepub::geometry as inner;
+
+pub fn spec(f: Frame) -> FrameSpec {
+    FrameSpec { width: f.width, height: f.height, cell: f.cell, margin: f.margin }
+}
+
+pub fn image(case: &Case) -> RgbImage {
+    RgbImage { w: case.w, h: case.h, data: case.data.clone() }
+}
+
+pub fn quad(p: &[f64]) -> [[f64; 2]; 4] {
+    [[p[0], p[1]], [p[2], p[3]], [p[4], p[5]], [p[6], p[7]]]
+}
+
+pub fn matrix(m: &[f64]) -> g::Homography {
+    g::Homography::from_mat([[m[0], m[1], m[2]], [m[3], m[4], m[5]], [m[6], m[7], m[8]]])
+}
+
+pub fn lens(l: &[f64]) -> g::Radial {
+    g::Radial { k: l[0], cx: l[1], cy: l[2], norm: l[3] }
+}
+
+pub fn fit(f: &[f64]) -> g::GeometryFit {
+    g::GeometryFit { h: matrix(f), radial: lens(&f[9..]) }
+}
+
+pub fn numbers(fit: &g::GeometryFit) -> [f64; 13] {
+    let (m, r) = (&fit.h.m, &fit.radial);
+    [m[0][0], m[0][1], m[0][2], m[1][0], m[1][1], m[1][2], m[2][0], m[2][1], m[2][2], r.k, r.cx, r.cy, r.norm]
+}
+
+/// Planes and lists of a look at the picture.
+pub struct Look {
+    pub luma: Vec<f32>,
+    pub integral: Vec<f64>,
+    pub mask: Vec<u8>,
+    pub patches: Vec<[u64; 7]>,
+    /// Centre x, centre y, score, size.
+    pub candidates: Vec<[f64; 4]>,
+    pub places: Vec<usize>,
+}
+
+#[derive(Clone, Copy, Debug, PartialEq)]
+pub enum Grade {
+    Score(f64),
+    Outside,
+    TooFew,
+}
+
+pub struct Found {
+    pub corners: [usize; 4],
+    pub points: [[f64; 2]; 4],
+}
+
+pub struct Flat {
+    pub fit: [f64; 13],
+    pub grade: Grade,
+    /// Rust's score: −∞ where unscored.
+    pub score: f64,
+    pub homographies: usize,
+    pub canonical: Vec<u8>,
+}
+
+/// What the original does with a capture inside the limits.
+pub struct Answer {
+    /// 0 accepted, else 5 to 10.
+    pub number: u32,
+    pub look: Option<Look>,
+    pub found: Option<Found>,
+    pub flat: Option<Flat>,
+}
+
+pub fn records(blobs: &[inner::Blob]) -> Vec<[u64; 7]> {
+    let each = |b: &inner::Blob| [b.area as u64, b.sx as u64, b.sy as u64, b.x0 as u64, b.y0 as u64, b.x1 as u64, b.y1 as u64];
+    blobs.iter().map(each).collect()
+}
+
+/// The integral image, which the original makes and throws away within its mask.
+fn integral(luma: &[f32], w: usize, h: usize) -> Vec<f64> {
+    let mut integral = vec![0f64; (w + 1) * (h + 1)];
+    for y in 0..h {
+        let mut row = 0f64;
+        for x in 0..w {
+            row += luma[y * w + x] as f64;
+            integral[(y + 1) * (w + 1) + x + 1] = integral[y * (w + 1) + x + 1] + row;
+        }
+    }
+    integral
+}
+
+fn look(case: &Case, img: &RgbImage, marker: f64) -> Look {
+    let (w, h) = (case.w, case.h);
+    let luma = inner::luma_plane(&lpcorepub::image::RgbImage { w, h, data: case.data.clone() });
+    let radius = (marker as usize / 3).clamp(8, w.min(h) / 4);
+    let mask = inner::adaptive_black_mask(&luma, w, h, radius, 8.0);
+    let blobs = inner::label_blobs(&mask, w, h);
+    let candidates: Vec<[f64; 4]> =
+        g::fiducial_candidates(img, &spec(case.frame)).iter().map(|c| [c.center[0], c.center[1], c.score, c.size]).collect();
+    // The original drops a candidate's place; the ring rule finds it again.
+    let max_side = (w.min(h) / 4) as f64;
+    let passes = |b: &inner::Blob| {
+        let (bw, bh) = ((b.x1 - b.x0 + 1) as f64, (b.y1 - b.y0 + 1) as f64);
+        b.area >= 32
+            && bw >= 10.0
+            && bh >= 10.0
+            && bw <= max_side
+            && bh <= max_side
+            && (0.5..=2.0).contains(&(bw / bh))
+            && (0.20..=0.85).contains(&(b.area as f64 / (bw * bh)))
+            && inner::verify_bullseye(&mask, &luma, w, h, b) >= inner::VERIFY_THRESHOLD
+    };
+    let places: Vec<usize> = blobs.iter().enumerate().filter(|(_, b)| passes(b)).map(|(i, _)| i).collect();
+    assert_eq!(places.len(), candidates.len(), "the driver's ring rule is not the original's");
+    Look {
+        integral: integral(&luma, w, h),
+        mask: mask.iter().map(|&d| d as u8).collect(),
+        patches: records(&blobs),
+        luma,
+        candidates,
+        places,
+    }
+}
+
+/// Places in the candidate list of the four corners: TL, TR, BR, BL.
+fn corners(l: &Look) -> [usize; 4] {
+    let first_least = |key: &dyn Fn(&[f64; 4]) -> f64| {
+        let mut best = 0;
+        for (i, c) in l.candidates.iter().enumerate() {
+            if key(c) < key(&l.candidates[best]) {
+                best = i;
+            }
+        }
+        best
+    };
+    [first_least(&|c| c[0] + c[1]), first_least(&|c| -(c[0] - c[1])), first_least(&|c| -(c[0] + c[1])), first_least(&|c| c[0] - c[1])]
+}
+
+/// How many of the 78 trials have a homography.
+fn homographies(img: &RgbImage, f: &FrameSpec, points: &[[f64; 2]; 4]) -> usize {
+    let (mut centre, mut count) = (0.0f64, 0);
+    for (span, step) in inner::K_STAGES {
+        let mut kept: Option<(f64, f64)> = None;
+        for i in 0..=(2.0 * span / step).round() as i64 {
+            let k = (centre - span + step * i as f64).clamp(-g::K_MAX, g::K_MAX);
+            let Some(fit) = g::fit_for(img, f, points, k) else { continue };
+            count += 1;
+            let score = g::grid_score(img, f, &fit);
+            if kept.is_none_or(|(best, _)| score > best) {
+                kept = Some((score, k));
+            }
+        }
+        match kept {
+            Some((_, k)) => centre = k,
+            None => return count,
+        }
+    }
+    count
+}
+
+/// A tap of the cell lies outside the picture.
+pub fn outside(f: &FrameSpec, fit: &g::GeometryFit, w: usize, h: usize, cell: usize) -> bool {
+    if f.cols() == 0 {
+        return false;
+    }
+    let (x0, y0) = f.cell_origin(cell % f.cols(), cell / f.cols());
+    (0..9).any(|i| {
+        let tap = |n: usize, from: usize| from as f64 + inner::TAPS[n] * f.cell as f64;
+        let p = fit.map([tap(i % 3, x0), tap(i / 3, y0)]);
+        p[0] < 0.0 || p[1] < 0.0 || p[0] >= w as f64 || p[1] >= h as f64
+    })
+}
+
+/// The number is that of a sampled cell with a tap outside.
+pub fn names_outside(f: &FrameSpec, fit: &g::GeometryFit, w: usize, h: usize, cell: usize) -> bool {
+    f.cols() > 0
+        && cell < f.cols() * f.rows()
+        && (cell % f.cols()).is_multiple_of(3)
+        && (cell / f.cols()).is_multiple_of(3)
+        && outside(f, fit, w, h, cell)
+}
+
+pub fn grade(img: &RgbImage, f: Frame, fit: &g::GeometryFit) -> (Grade, f64) {
+    let s = spec(f);
+    let score = g::grid_score(img, &s, fit);
+    let some_outside = (0..s.rows()).step_by(3).any(|r| (0..s.cols()).step_by(3).any(|c| outside(&s, fit, img.w, img.h, r * s.cols() + c)));
+    let grade = if some_outside {
+        Grade::Outside
+    } else if sampled(f) < 16 {
+        Grade::TooFew
+    } else {
+        Grade::Score(score)
+    };
+    (grade, score)
+}
+
+pub fn answer(case: &Case) -> Answer {
+    let mut a = Answer { number: 0, look: None, found: None, flat: None };
+    let (img, f) = (image(case), spec(case.frame));
+    let pub_spec = lpcorepub::frame::FrameSpec { width: f.width, height: f.height, cell: f.cell, margin: f.margin };
+    let flat = g::rectify(&img, &f);
+    a.number = 'number: {
+        let Some((marker, _)) = inner::marker_layout(&pub_spec) else { break 'number 5 };
+        if case.w < 32 || case.h < 32 {
+            break 'number 6;
+        }
+        let look = a.look.insert(look(case, &img, marker));
+        if look.candidates.len() < 4 {
+            break 'number 7;
+        }
+        let corners = corners(look);
+        if (0..4).any(|i| corners[..i].contains(&corners[i])) {
+            break 'number 8;
+        }
+        let Some(points) = g::detect_fiducials(&img, &f) else { break 'number 9 };
+        let places = corners.map(|c| look.places[c]);
+        a.found = Some(Found { corners: places, points });
+        let Some(fit) = g::fit_geometry(&img, &f) else { break 'number 10 };
+        let (grade, score) = grade(&img, case.frame, &fit);
+        let canonical = flat.as_ref().expect("a fit, and no card").data.clone();
+        a.flat = Some(Flat { fit: numbers(&fit), grade, score, homographies: homographies(&img, &f, &points), canonical });
+        0
+    };
+    assert_eq!(flat.is_some(), a.number == 0, "the driver's numbers are not the original's");
+    a
+}

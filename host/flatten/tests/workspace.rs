@@ -1,0 +1,83 @@
+//! The wrapper.
+
+use flatten::{ffi, Frame, Grade, Mender, Workspace};
+
+const SMALL: Frame = Frame { width: 192, height: 192, cell: 1, margin: 48 };
+
+fn card() -> Vec<u8> {
+    let mut data: Vec<u8> = (0..192 * 192).flat_map(|i| [if (i % 192 / 8 + i / 192 / 8) % 2 == 0 { 90 } else { 160 }; 3]).collect();
+    assert_eq!(ffi::stamp_fiducials(&mut data, 192, 192, SMALL), 0);
+    data
+}
+
+#[test]
+fn one_workspace_serves_many_captures() {
+    let mut ws = Workspace::new(192, 192, SMALL).unwrap();
+    assert!(!ws.looked() && ws.patches().len() == 0);
+    let first = ws.rectify(&card()).unwrap();
+    let flat = ws.canonical().to_vec();
+    assert!(matches!(first.grade, Grade::Score(_)));
+    assert_eq!((first.trials, first.homographies), (78, 78));
+    // The corners are candidates, and stand as corners do.
+    let at = first.corners.map(|place| ws.candidates().find(|c| c.place == place).unwrap());
+    assert!(at[0].x < at[1].x && at[3].x < at[2].x && at[0].y < at[3].y && at[1].y < at[2].y);
+    let dark: u64 = ws.patches().map(|p| p.area).sum();
+    assert!(dark > 0 && ws.waiting() > 0);
+
+    // A refusal leaves the card of the call before, and shows what it found.
+    let refusal = ws.rectify(&vec![255; 3 * 192 * 192]).unwrap_err();
+    assert_eq!((refusal.number(), refusal.mender()), (7, Mender::Photographer));
+    assert!(ws.looked() && ws.candidates().len() == 0);
+    assert_eq!(ws.canonical(), flat);
+
+    // A capture of another length is refused without a look.
+    let refusal = ws.rectify(&[0; 10]).unwrap_err();
+    assert_eq!((refusal.number(), refusal.mender()), (2, Mender::Host));
+    assert!(!ws.looked() && ws.patches().len() == 0);
+
+    // And the first answer comes again.
+    let again = ws.rectify(&card()).unwrap();
+    assert_eq!(again.fit.numbers(), first.fit.numbers());
+    assert_eq!(ws.canonical(), flat);
+}
+
+#[test]
+fn limits() {
+    for (w, h, frame, number) in [
+        (0, 1, SMALL, 2),
+        (4097, 1, SMALL, 2),
+        (1, usize::MAX, SMALL, 2),
+        (1, 1, Frame { cell: 513, ..SMALL }, 1),
+        (0, 0, Frame { margin: 4097, ..SMALL }, 1),
+    ] {
+        assert_eq!(Workspace::new(w, h, frame).err().map(|r| r.number()), Some(number));
+    }
+    assert!(Workspace::new(1, 1, Frame { width: 1, height: 1, cell: 512, margin: 4096 }).is_ok());
+}
+
+#[test]
+fn refusals_say_what_to_do() {
+    let refusal = Workspace::new(1, 1, Frame { cell: 0, ..SMALL }).err().unwrap();
+    assert_eq!(refusal.mender(), Mender::Frame);
+    assert_eq!(
+        refusal.to_string(),
+        "refused 1: a frame number is outside its limit (sides 1 to 4096, cell 1 to 512, margin 0 to 4096); correct the frame description"
+    );
+}
+
+#[test]
+fn frames_in_words() {
+    assert_eq!("848,636,10,106".parse(), Ok(Frame::BENCH));
+    assert_eq!(Frame::BENCH.to_string(), "848,636,10,106");
+    assert_eq!(Frame::BENCH.grid().unwrap(), (63, 42));
+}
+
+/// The lengths that the library names are those of document 01, and one entry less is refused by 3.
+#[test]
+fn smallest_lengths() {
+    let mut n = [0; ffi::LENGTHS_LEN];
+    assert_eq!(ffi::lengths(33, 47, SMALL, &mut n), 0);
+    let pixels = 33 * 47;
+    assert_eq!(n, [3 * pixels, pixels, 34 * 48, pixels, pixels, pixels, 7 * 776, 4 * 48, 48, 1024, 3 * 192 * 192]);
+    assert_eq!(ffi::lengths(33, 47, SMALL, &mut n[..10]), 3);
+}
