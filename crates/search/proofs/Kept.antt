@@ -224,7 +224,7 @@ unfolding keeps
 no-grade NoHomography h = refl
 no-grade (Graded g) h = absurd h
 
-some-grade : (o : Outcome) → T (keeps o) → (g : Grade) × (o ≡ Graded g)
+pub some-grade : (o : Outcome) → T (keeps o) → (g : Grade) × (o ≡ Graded g)
 unfolding keeps
 some-grade NoHomography h = absurd h
 some-grade (Graded g) h = (g, refl)

@@ -1,0 +1,125 @@
+-- What `fit_geometry` does; refusal 10. Assumes nothing.
+use Prim.Native.Nat.{ℕ, _≤_}
+use mathlib.Core.Path.{_≡_}
+use mathlib.Core.Bool.{Bool, cond, _||_}
+use mathlib.Core.List.{List, [], _∷_}
+use lib.Dec.{ltb}
+use lib.ListN.{length}
+use lib.Ieee.{Float}
+use Rattle.frame.specs.Image.{Image}
+use Rattle.frame.specs.Refusals.{verdictOf, Lowest, Check, check, Tested, frameOutside, captureWrong, captureSmall}
+use Rattle.markers.specs.Layout.{noLayout}
+use Rattle.mask.specs.Mask.{maskPlane}
+use Rattle.blobs.specs.Stack.{mostWaiting}
+use Rattle.candidates.specs.Areas.{Areas, lengthsOf, shorter, smallest}
+use Rattle.candidates.specs.Doors.{Looked}
+use Rattle.candidates.specs.declared.Lengths.{Lengths}
+use Rattle.fiducials.specs.Answers.{noPlaces}
+use Rattle.fiducials.specs.Doors.{MarkedBy, Undetected, centresAt, Cornered}
+use Rattle.fiducials.specs.declared.Found.{Found}
+use Rattle.fit.specs.Doors.{sampledCells, MeansKept}
+use Rattle.frame.specs.declared.FrameSpec.{FrameSpec}
+use Rattle.frame.specs.declared.Quad.{Quad}
+use Rattle.search.specs.Stages.{begun, keeps, searched, lastCentre, BarrenStage, BestTrial}
+use Rattle.search.specs.declared.Stage.{Stage}
+use Rattle.fit_geometry.specs.declared.Pictured.{Pictured}
+use Rattle.fit_geometry.specs.declared.PictureFit.{PictureFit}
+
+-- the conditions of `fit_geometry` and `rectify`, each with its number: those of `detect_fiducials`, and 10
+pub data Unfitted (img : Image) (f : FrameSpec) (tests : List Check) (n : ℕ) : Type 0 where
+  undetected : Undetected img f tests n → Unfitted img f tests n
+  -- "10: no homography; in `fit_geometry` and its callers, a stage in which no trial has one"
+  barren : n ≡ 10 → (q : Quad) → MarkedBy img f q → BarrenStage img f q → Unfitted img f tests n
+
+-- "each call makes the checks that concern what it is handed"; the areas by their lengths
+unfoldable pub testsFor : Image → FrameSpec → Lengths → ℕ → List Check
+testsFor img f l means =
+    check 1 (frameOutside f)
+    ∷ check 2 (captureWrong img)
+    ∷ check 3 (shorter l (smallest (img .w) (img .h)) || ltb means (sampledCells f))
+    ∷ check 5 (noLayout f)
+    ∷ check 6 (captureSmall img)
+    ∷ []
+
+abbrev pub fitTests : Image → FrameSpec → Areas → List Float → List Check
+fitTests img f a means = testsFor img f (lengthsOf a) (length means)
+
+-- ---- past the tests
+
+-- no corners, and so no search
+unfoldable pub unsearched : Found → Pictured
+unsearched d =
+    record { number = d .number; stage = begun 0 0; places = noPlaces; patches = d .patches; candidates = d .candidates; waiting = d .waiting }
+
+-- the corners d and the search's last stage t
+unfoldable pub pictured : Found → Stage → Pictured
+pictured d t =
+    cond (keeps (t .kept))
+    (record { number = 0; stage = t; places = d .places; patches = d .patches; candidates = d .candidates; waiting = d .waiting })
+    (record { number = 10; stage = t; places = noPlaces; patches = d .patches; candidates = d .candidates; waiting = d .waiting })
+
+-- what a call leaves where no test refuses it: areas a, then b; its answer r
+pub record Picturing (img : Image) (f : FrameSpec) (a b : Areas) (means means′ : List Float) (r : Pictured) : Type 0 where
+  pub looked : Looked img f a b (r .patches) (r .candidates) (r .waiting)
+  pub deep-is : r .waiting ≡ mostWaiting (maskPlane img f) (img .w)
+  pub means-rest : MeansKept f means means′
+  -- 7 to 10, or 0: the lowest number that applies, after any tests of which none holds
+  pub lowest : (tests : List Check) → ((j : ℕ) → Tested j tests → ⊥) → Lowest (Unfitted img f tests) (r .number)
+  pub from-seven : 1 ≤ r .number → 7 ≤ r .number
+  -- accepted: the corners, and the search over their centres
+  pub corners : r .number ≡ 0 → Cornered img f (b .patches) (looked .firsts) (r .patches) (r .places)
+  pub found : r .number ≡ 0 → r .stage ≡ searched img f (centresAt (b .patches) (r .places))
+  pub best : r .number ≡ 0 → BestTrial img f (centresAt (b .patches) (r .places)) 2 (lastCentre img f (centresAt (b .patches) (r .places))) (r .stage .fit)
+  -- "78 when accepted"
+  pub tried-all : r .number ≡ 0 → r .stage .tried ≡ 78
+  -- 10: the search up to and with the stage that has no trial with a homography
+  pub fruitless : r .number ≡ 10 → (q : Quad) → MarkedBy img f q → r .stage ≡ searched img f q
+  -- 7 to 9: nothing was tried
+  pub untried : 1 ≤ r .number → r .number ≤ 9 → r .stage ≡ begun 0 0
+  pub nowhere : 1 ≤ r .number → r .places ≡ noPlaces
+
+-- ---- `fit_geometry`
+
+unfoldable pub answerOf : Pictured → PictureFit
+answerOf p =
+    record {
+      verdict = verdictOf (p .number);
+      fit = p .stage .fit;
+      kept = p .stage .kept;
+      tried = p .stage .tried;
+      homographies = p .stage .homographies;
+      places = p .places;
+      patches = p .patches;
+      candidates = p .candidates;
+      waiting = p .waiting;
+    }
+
+-- refused by a test
+unfoldable pub untested : ℕ → Pictured
+untested n = record { number = n; stage = begun 0 0; places = noPlaces; patches = 0; candidates = 0; waiting = 0 }
+
+-- the kept trial and the counts of an answer
+abbrev pub stageOf : PictureFit → Stage
+stageOf r = record { kept = r .kept; fit = r .fit; tried = r .tried; homographies = r .homographies }
+
+pub record Fitting (img : Image) (f : FrameSpec) (a b : Areas) (means means′ : List Float) (r : PictureFit) : Type 0 where
+  pub number : ℕ
+  pub given : r .verdict ≡ verdictOf number
+  pub refusal : Lowest (Unfitted img f (fitTests img f a means)) number
+  -- "1 to 6 touch no memory"
+  pub untouched : 1 ≤ number → number ≤ 6 → (b ≡ a) × (means′ ≡ means) × (r .patches ≡ 0) × (r .candidates ≡ 0) × (r .waiting ≡ 0)
+  -- from 7 on, and accepted: planes, marks and records
+  pub refused : 7 ≤ number → Looked img f a b (r .patches) (r .candidates) (r .waiting)
+  pub accepted : number ≡ 0 → Looked img f a b (r .patches) (r .candidates) (r .waiting)
+  pub means-rest : MeansKept f means means′
+  pub corners : (e : number ≡ 0) → Cornered img f (b .patches) (accepted e .firsts) (r .patches) (r .places)
+  -- the kept trial with its grade and fit, and "trials tried .. and how many had a homography"
+  pub found : number ≡ 0 → stageOf r ≡ searched img f (centresAt (b .patches) (r .places))
+  -- "a trial of the last stage; no other of that stage scores more, no earlier one as much"
+  pub best : number ≡ 0 → BestTrial img f (centresAt (b .patches) (r .places)) 2 (lastCentre img f (centresAt (b .patches) (r .places))) (r .fit)
+  pub tried-all : number ≡ 0 → r .tried ≡ 78
+  -- 10: the counts up to and with the stage that has no trial with a homography
+  pub fruitless : number ≡ 10 → (q : Quad) → MarkedBy img f q → stageOf r ≡ searched img f q
+  -- 1 to 9: nothing was tried
+  pub untried : 1 ≤ number → number ≤ 9 → stageOf r ≡ begun 0 0
+  pub nowhere : 1 ≤ number → r .places ≡ noPlaces
