@@ -2,3 +2,5 @@
 pub mod Given
 pub mod Parts
 pub mod Rows
+pub mod Rectifying
+pub mod Determined

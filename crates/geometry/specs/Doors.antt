@@ -13,8 +13,11 @@ use Rattle.frame.specs.declared.Verdict.{Verdict}
 use Rattle.fit.specs.declared.GeometryFit.{GeometryFit}
 
 -- "4: canonical image length is not 3·width·height"
+abbrev pub canonicalLength : FrameSpec → ℕ
+canonicalLength f = 3 * f .width * f .height
+
 unfoldable pub canonicalWrong : FrameSpec → List ℕ → Bool
-canonicalWrong f canonical = not (eqb (length canonical) (3 * f .width * f .height))
+canonicalWrong f canonical = not (eqb (length canonical) (canonicalLength f))
 
 -- `warp_with`: "neither" 5 nor 6
 unfoldable pub warpTests : Image → FrameSpec → List ℕ → List Check

@@ -1,3 +1,5 @@
 -- Definitions that the contracts of this crate cite.
 pub mod Warp
 pub mod Doors
+pub mod Rectification
+pub mod Agreement

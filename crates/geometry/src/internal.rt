@@ -1,8 +1,17 @@
-// The warp, for callers that have made their tests.
+// The warp and the tests of `rectify`, for callers that have made theirs.
+use candidates::Lengths;
+use candidates::internal::shorter;
+use candidates::internal::smallest;
 use fit::GeometryFit;
+use fit::internal::sampled_cells;
+use fit_geometry::Pictured;
 use frame::FrameSpec;
 use frame::Point;
 use frame::Rgb;
+use frame::internal::capture_small;
+use frame::internal::capture_wrong;
+use frame::internal::frame_outside;
+use markers::internal::no_layout;
 ghost use mathlib.Core.Path.{_≡_};
 ghost use mathlib.Core.Bool.{not};
 ghost use Prim.Native.Nat.{_+_, _*_, _<_, _≤_};
@@ -12,7 +21,10 @@ ghost use Rattle.base.specs.Loops.{filled};
 ghost use Rattle.float.specs.Floats.{_⊕_, f64, d64};
 ghost use Rattle.frame.specs.Image.{image};
 ghost use Rattle.frame.specs.Limits.{FrameHeld, CaptureHeld};
+ghost use Rattle.frame.specs.Refusals.{lowestOf};
 ghost use Rattle.geometry.specs.Warp.{reading, rowByte, warped};
+ghost use Rattle.geometry.specs.Doors.{canonicalLength};
+ghost use Rattle.geometry.specs.Rectification.{testsWith, laidWhere};
 
 // The centre of the pixel in column or row n.
 fn centre(n: usize) -> f64
@@ -83,7 +95,63 @@ pub fn warp(
 // Refusal 4, of a canonical image of n bytes.
 pub fn canonical_wrong(frame: FrameSpec, n: usize) -> bool
     requires { ⌜ FrameHeld frame ⌝ }
-    ensures { λ r. ⌜ r ≡ not (eqb n (3 * frame .width * frame .height)) ⌝ }
+    ensures { λ r. ⌜ r ≡ not (eqb n (canonicalLength frame)) ⌝ }
 {
     n != 3 * frame.width * frame.height
+}
+
+// ---- rectify
+
+// The lowest number of the tests of `rectify` that applies, or 0.
+pub fn refused(
+    capture: &[u8],
+    w: usize,
+    h: usize,
+    frame: FrameSpec,
+    lengths: Lengths,
+    means: usize,
+    canonical: usize,
+) -> u32
+    ensures { λ r. ⌜ r ≡ lowestOf (testsWith (image w h (now (capture .entry))) frame lengths means canonical) ⌝ }
+{
+    if frame_outside(frame) {
+        return 1;
+    }
+    if capture_wrong(capture, w, h) {
+        return 2;
+    }
+    if shorter(lengths, smallest(w, h)) | (means < sampled_cells(frame)) {
+        return 3;
+    }
+    if canonical_wrong(frame, canonical) {
+        return 4;
+    }
+    if no_layout(frame) {
+        return 5;
+    }
+    if capture_small(w, h) {
+        return 6;
+    }
+    0
+}
+
+// The canonical image under the fit of a picture that is not refused; else it stays.
+pub fn lay(
+    capture: &[u8],
+    w: usize,
+    h: usize,
+    frame: FrameSpec,
+    picture: Pictured,
+    canonical: &mut [u8],
+)
+    requires { ⌜ CaptureHeld (image w h (now capture)) × FrameHeld frame × (length (now canonical) ≡ canonicalLength frame) ⌝ }
+    ensures { λ _. ⌜ now (canonical .exit) ≡ laidWhere (picture .number) (image w h (now (capture .entry))) frame (picture .stage .fit) (now (canonical .entry)) ⌝ }
+{
+    let number = picture.number;
+    if number != 0 {
+        return;
+    }
+    let stage = picture.stage;
+    let fit = stage.fit;
+    warp(capture, w, h, frame, fit, canonical);
 }

@@ -1,13 +1,22 @@
 // The way from a capture to the flat card.
+use candidates::Lengths;
 use fit::GeometryFit;
+use fit_geometry::PictureFit;
+use fit_geometry::internal::answer;
+use fit_geometry::internal::fit_picture;
+use fit_geometry::internal::untested;
 use frame::FrameSpec;
 use frame::Verdict;
 use frame::internal::capture_wrong;
 use frame::internal::frame_outside;
 use internal::canonical_wrong;
+use internal::lay;
+use internal::refused;
 use internal::warp;
 ghost use Rattle.frame.specs.Image.{image};
+ghost use Rattle.candidates.specs.Areas.{areas};
 ghost use Rattle.geometry.specs.Doors.{Warping};
+ghost use Rattle.geometry.specs.Rectification.{Rectification, lent};
 
 pub mod internal;
 
@@ -34,4 +43,59 @@ pub fn warp_with(
     }
     warp(capture, w, h, frame, fit, canonical);
     Verdict::Accepted
+}
+
+// Finds the card in a capture and lays it flat. Refusals 1 to 10; refused, the canonical image stays.
+pub fn rectify(
+    capture: &[u8],
+    w: usize,
+    h: usize,
+    frame: FrameSpec,
+    luma: &mut [f32],
+    integral: &mut [f64],
+    mask: &mut [u8],
+    seen: &mut [u8],
+    waiting: &mut [u32],
+    patches: &mut [u64],
+    candidates: &mut [f64],
+    blob_index: &mut [u32],
+    means: &mut [f64],
+    canonical: &mut [u8],
+) -> PictureFit
+    ensures { λ r. ⌜ Rectification (image w h (now (capture .entry))) frame
+        (lent (areas (now (luma .entry)) (now (integral .entry)) (now (mask .entry)) (now (seen .entry)) (now (waiting .entry)) (now (patches .entry)) (now (candidates .entry)) (now («blob_index» .entry))) (now (means .entry)) (now (canonical .entry)))
+        (lent (areas (now (luma .exit)) (now (integral .exit)) (now (mask .exit)) (now (seen .exit)) (now (waiting .exit)) (now (patches .exit)) (now (candidates .exit)) (now («blob_index» .exit))) (now (means .exit)) (now (canonical .exit)))
+        r ⌝ }
+{
+    let lengths = Lengths {
+        luma: luma.len(),
+        integral: integral.len(),
+        mask: mask.len(),
+        seen: seen.len(),
+        waiting: waiting.len(),
+        patches: patches.len(),
+        candidates: candidates.len(),
+        blob_index: blob_index.len(),
+    };
+    let number = refused(capture, w, h, frame, lengths, means.len(), canonical.len());
+    if number != 0 {
+        return untested(number);
+    }
+    let picture = fit_picture(
+        capture,
+        w,
+        h,
+        frame,
+        luma,
+        integral,
+        mask,
+        seen,
+        waiting,
+        patches,
+        candidates,
+        blob_index,
+        means,
+    );
+    lay(capture, w, h, frame, picture, canonical);
+    answer(picture)
 }

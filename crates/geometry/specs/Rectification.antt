@@ -1,0 +1,100 @@
+-- What `rectify` does: demand 3 (document 00), its sentences above the fields that state them. Assumes nothing.
+use Prim.Native.Nat.{ℕ, zero, suc, _≤_}
+use mathlib.Core.Path.{_≡_}
+use mathlib.Core.Bool.{Bool, not, _||_}
+use mathlib.Core.List.{List, [], _∷_}
+use lib.Dec.{ltb, eqb}
+use lib.ListN.{length}
+use lib.Ieee.{Float}
+use Rattle.frame.specs.Image.{Image}
+use Rattle.frame.specs.Refusals.{verdictOf, Lowest, Check, check, frameOutside, captureWrong, captureSmall}
+use Rattle.frame.specs.declared.FrameSpec.{FrameSpec}
+use Rattle.frame.specs.declared.Quad.{Quad}
+use Rattle.markers.specs.Layout.{noLayout}
+use Rattle.mask.specs.Mask.{maskPlane}
+use Rattle.blobs.specs.Stack.{mostWaiting}
+use Rattle.candidates.specs.Areas.{Areas, lengthsOf, shorter, smallest}
+use Rattle.candidates.specs.Doors.{Looked}
+use Rattle.candidates.specs.declared.Lengths.{Lengths}
+use Rattle.fiducials.specs.Answers.{noPlaces}
+use Rattle.fiducials.specs.Doors.{MarkedBy, centresAt, Cornered}
+use Rattle.fit.specs.declared.GeometryFit.{GeometryFit}
+use Rattle.fit.specs.Doors.{sampledCells, MeansKept}
+use Rattle.search.specs.Stages.{begun, searched, lastCentre, BestTrial}
+use Rattle.fit_geometry.specs.Doors.{Unfitted, stageOf}
+use Rattle.fit_geometry.specs.declared.PictureFit.{PictureFit}
+use Rattle.geometry.specs.Warp.{warped}
+use Rattle.geometry.specs.Doors.{canonicalLength}
+
+-- ---- what is lent: the areas of a look at the picture, the cell means, the canonical image
+pub record Lent : Type 0 where
+  pub areas : Areas
+  pub means : List Float
+  pub canonical : List ℕ
+
+abbrev pub lent : Areas → List Float → List ℕ → Lent
+lent areas means canonical = record { areas = areas; means = means; canonical = canonical }
+
+-- the tests of `rectify`, the areas by their lengths
+unfoldable pub testsWith : Image → FrameSpec → Lengths → ℕ → ℕ → List Check
+testsWith img f l means canonical =
+    check 1 (frameOutside f)
+    ∷ check 2 (captureWrong img)
+    ∷ check 3 (shorter l (smallest (img .w) (img .h)) || ltb means (sampledCells f))
+    ∷ check 4 (not (eqb canonical (canonicalLength f)))
+    ∷ check 5 (noLayout f)
+    ∷ check 6 (captureSmall img)
+    ∷ []
+
+abbrev pub rectifyTests : Image → FrameSpec → Lent → List Check
+rectifyTests img f a = testsWith img f (lengthsOf (a .areas)) (length (a .means)) (length (a .canonical))
+
+-- the canonical image under a fit that was found, with the number 0; else as it was
+unfoldable pub laidWhere : ℕ → Image → FrameSpec → GeometryFit → List ℕ → List ℕ
+laidWhere zero img f fit canonical = warped img f fit canonical
+laidWhere (suc n) img f fit canonical = canonical
+
+-- ---- the areas and the answer of a call that is accepted, with the number 0, or refused by 7 to 10
+pub record Seen (img : Image) (f : FrameSpec) (a b : Lent) (r : PictureFit) (number : ℕ) : Type 0 where
+  -- "After an acceptance, and after a refusal by 7 or a higher number, the patch list starts with every patch once, in raster order, and their areas add
+  -- up to the dark pixels."
+  pub looked : Looked img f (a .areas) (b .areas) (r .patches) (r .candidates) (r .waiting)
+  -- the waiting maximum is free; this says that it does not depend on "prior work-area contents"
+  pub deep-is : r .waiting ≡ mostWaiting (maskPlane img f) (img .w)
+  -- "Free: .. cell means"; past the sampled cells they are unchanged
+  pub means-rest : MeansKept f (a .means) (b .means)
+  -- "An accepted one names four different patches, one for each corner, each all the dark pixels joined edge to edge, each passing the ring rule. No other
+  -- passing patch lies further out toward that corner, and of equals the first in raster order is named."
+  pub corners : number ≡ 0 → Cornered img f (b .areas .patches) (looked .firsts) (r .patches) (r .places)
+  -- "The reported fit is a trial of the last lens stage over those four patches' centres. No other trial of that stage scores more, and no earlier one as
+  -- much."
+  pub best : number ≡ 0 → BestTrial img f (centresAt (b .areas .patches) (r .places)) 2 (lastCentre img f (centresAt (b .areas .patches) (r .places))) (r .fit)
+  -- .. and it is the one that the stages keep, with its grade, "trials tried .. and how many had a homography": this says which trial it is where a NaN
+  -- leaves several
+  pub found : number ≡ 0 → stageOf r ≡ searched img f (centresAt (b .areas .patches) (r .places))
+  -- "78 when accepted"
+  pub tried-all : number ≡ 0 → r .tried ≡ 78
+  -- "Every canonical pixel is the reading where that fit puts it."
+  pub laid : number ≡ 0 → b .canonical ≡ warped img f (r .fit) (a .canonical)
+  -- "A refused rectification leaves the canonical image untouched."
+  pub kept : 7 ≤ number → b .canonical ≡ a .canonical
+  -- by 10: the trials up to and with the stage that has none with a homography
+  pub fruitless : number ≡ 10 → (q : Quad) → MarkedBy img f q → stageOf r ≡ searched img f q
+
+-- ---- `rectify`
+pub record Rectification (img : Image) (f : FrameSpec) (a b : Lent) (r : PictureFit) : Type 0 where
+  -- "A refusal returns its number"; 0 is acceptance
+  pub number : ℕ
+  pub given : r .verdict ≡ verdictOf number
+  -- "a rectification is refused exactly when a condition that document 01 or a later order sets for it holds, by the lowest such number"
+  pub refusal : Lowest (Unfitted img f (rectifyTests img f a)) number
+  -- "1 to 6 touch no memory"
+  pub untouched : 1 ≤ number → number ≤ 6 → b ≡ a
+  -- the areas after 7 to 10, and "Acceptance leaves the same planes, marks and records"
+  pub refused : 7 ≤ number → Seen img f a b r number
+  pub accepted : number ≡ 0 → Seen img f a b r number
+  -- what an answer holds where there is nothing to tell (document 01 gives a refusal its number only): after 1 to 6 no patch, after 1 to 9 no trial, after any
+  -- refusal no place
+  pub unseen : 1 ≤ number → number ≤ 6 → (r .patches ≡ 0) × (r .candidates ≡ 0) × (r .waiting ≡ 0)
+  pub untried : 1 ≤ number → number ≤ 9 → stageOf r ≡ begun 0 0
+  pub nowhere : 1 ≤ number → r .places ≡ noPlaces
