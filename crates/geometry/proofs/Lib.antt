@@ -4,3 +4,4 @@ pub mod Parts
 pub mod Rows
 pub mod Rectifying
 pub mod Determined
+pub mod Marked

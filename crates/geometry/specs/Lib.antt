@@ -3,3 +3,4 @@ pub mod Warp
 pub mod Doors
 pub mod Rectification
 pub mod Agreement
+pub mod Marked
