@@ -1,9 +1,6 @@
 -- What a look finds is decided by the capture and the frame: "no answer depends on prior work-area contents". Assumes nothing.
-use Prim.Native.Nat.{ℕ, _≤_, _<_}
-use mathlib.Core.Path.{_≡_, refl, sym, ap, subst, _∙_}
-use mathlib.Core.List.{List}
-use lib.Ieee.{Float}
-use lib.ListN.{getD}
+use Prim.Native.Nat.{ℕ, _<_}
+use mathlib.Core.Path.{_≡_, sym, subst}
 use Rattle.frame.specs.Image.{Image}
 use Rattle.frame.specs.declared.FrameSpec.{FrameSpec}
 use Rattle.sampling.specs.Luma.{lumaPlane}

@@ -1,12 +1,11 @@
 -- A place that is not outside the picture has its pixel there. Assumes nothing.
-use Prim.Native.Nat.{ℕ, _+_, _*_, _/_, _^_, _-_, _≤_, _<_, min}
-use mathlib.Core.Path.{_≡_, refl, sym, ap, subst, _∙_}
+use Prim.Native.Nat.{ℕ, _+_, _*_, _/_, _^_, _≤_, _<_}
+use mathlib.Core.Path.{_≡_, refl, sym, subst, _∙_}
 use mathlib.Core.Bool.{Bool, true, false, _||_}
-use native.Mathlib.Nat.{div-lt-iff-lt-mul, mul-comm, mul-one, lt-of-not-le}
+use native.Mathlib.Nat.{div-lt-iff-lt-mul, mul-one, lt-of-not-le}
 use native.Mathlib.Omega.{arith}
 use lib.Dec.{T}
-use lib.IntN.{ℤ, pos}
-use lib.Ieee.{Float, nan, inf, fin, binary64, up, down, ofInt, round, lt, le, eq, toUnsigned}
+use lib.Ieee.{Float, nan, inf, fin, binary64, up, down, ofInt, lt, le, eq, toUnsigned}
 use lib.Ieee.Back.{round-whole}
 use lib.Ieee.Exact.{HasValue}
 use lib.Ieee.Fits.{down-pos}

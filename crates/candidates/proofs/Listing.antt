@@ -1,11 +1,10 @@
 -- The candidate list, one patch more at a time. Assumes nothing.
-use Prim.Native.Nat.{ℕ, _+_, _*_, _/_, _^_, _≤_, _<_}
+use Prim.Native.Nat.{ℕ, _+_, _*_, _/_, _≤_, _<_}
 use mathlib.Core.Path.{_≡_, refl, sym, ap, subst, _∙_}
-use mathlib.Core.Bool.{Bool, true, false}
-use mathlib.Core.Logic.{_⊎_, inl, inr, ⊎-elim}
+use mathlib.Core.Bool.{false}
+use mathlib.Core.Logic.{_⊎_, ⊎-elim}
 use mathlib.Core.List.{List}
-use native.Mathlib.Nat.{eq-or-lt-of-le, le-of-suc-le-suc}
-use native.Mathlib.Numerals.{add-one}
+use native.Mathlib.Nat.{eq-or-lt-of-le}
 use native.Mathlib.Omega.{arith}
 use lib.Dec.{T}
 use lib.ListN.{length, getD, set, drop, length-set}
@@ -13,11 +12,10 @@ use lib.Seq.{getD-set-same, getD-set-other, drop-set-lt, drop-drop}
 use lib.Ieee.{Float, nan}
 use Rattle.frame.proofs.Tests.{either}
 use Rattle.frame.specs.declared.Point.{Point}
-use Rattle.blobs.specs.Patches.{total, one, ink, patchAt, PatchList}
+use Rattle.blobs.specs.Patches.{total, one, ink, patchAt}
 use Rattle.blobs.specs.declared.Blob.{Blob}
 use Rattle.candidates.specs.Ring.{passes, ringScore, centre, sizeOf, ringOf, candidateOf, centerAt, candidateAt, CandidateList}
 use Rattle.candidates.specs.Bounds.{Listable, Storable, storedRecord, storedPlace, storedCount}
-use Rattle.candidates.specs.declared.Candidate.{Candidate}
 use Rattle.candidates.specs.declared.Ring.{Ring}
 use Rattle.candidates.specs.declared.Ring.the-variants.{Passed, Failed}
 use Rattle.candidates.proofs.Fours.{four-set, four-long, four-0, four-1, four-2, four-3, four-before, four-rest}

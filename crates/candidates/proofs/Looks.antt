@@ -1,21 +1,20 @@
 -- A look at the picture, from what its parts leave. Assumes nothing.
-use Prim.Native.Nat.{ℕ, zero, suc, _+_, _*_, _/_, _%_, _≤_, _<_, min}
+use Prim.Native.Nat.{ℕ, zero, suc, _*_, _/_, _%_, _≤_, _<_, min}
 use mathlib.Core.Path.{_≡_, refl, sym, ap, subst, _∙_}
 use mathlib.Core.Bool.{Bool, true, false, cond, _||_}
-use mathlib.Core.Logic.{_⊎_, inl, inr}
-use mathlib.Core.List.{List, [], _∷_}
+use mathlib.Core.Logic.{inl, inr}
+use mathlib.Core.List.{List}
 use native.Mathlib.Omega.{arith}
 use borrow.Author.Tests.{ltb-false}
 use lib.Dec.{T, ltb}
-use lib.ListN.{length, getD, take, drop}
+use lib.ListN.{length, take}
 use lib.Ieee.{Float, nan}
-use Rattle.base.specs.Loops.{table, filled, byRow}
+use Rattle.base.specs.Loops.{filled, byRow}
 use Rattle.base.proofs.Plane.{length-filled, filled-at, filled-past, filled-is}
 use Rattle.base.proofs.Table.{length-table, table-at, take-filled}
 use Rattle.frame.specs.Image.{Image}
-use Rattle.frame.specs.Refusals.{Check, Tested, lowestOf, verdictOf, frameOutside, captureWrong, captureSmall}
+use Rattle.frame.specs.Refusals.{lowestOf, verdictOf, frameOutside, captureWrong, captureSmall}
 use Rattle.frame.specs.declared.FrameSpec.{FrameSpec}
-use Rattle.frame.specs.declared.Verdict.{Verdict}
 use Rattle.frame.specs.declared.Verdict.the-variants.{Accepted, Refused}
 use Rattle.frame.proofs.Held.{frame-held, capture-held}
 use Rattle.frame.proofs.Lowest.{Rising, none-tested}
@@ -25,7 +24,7 @@ use Rattle.sampling.specs.Luma.{lumaAt, lumaPlane}
 use Rattle.mask.specs.Mask.{maskEntry, maskPlane, isDark, radius}
 use Rattle.mask.specs.Planes.{Planes}
 use Rattle.blobs.specs.Labels.{Labels}
-use Rattle.blobs.specs.Patches.{ink, patchAt, PatchList}
+use Rattle.blobs.specs.Patches.{ink, patchAt}
 use Rattle.blobs.specs.declared.Blob.{Blob}
 use Rattle.candidates.specs.Ring.{CandidateList}
 use Rattle.candidates.specs.Areas.{Areas, areas, lengthsOf, smallest, shorter, testsBy, lookTests}

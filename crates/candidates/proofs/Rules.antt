@@ -1,8 +1,7 @@
 -- The ring rule's parts. Assumes nothing.
 use Prim.Native.Nat.{ℕ, _/_, _≤_, min}
-use mathlib.Core.Path.{_≡_, refl, sym, ap, subst, _∙_}
-use mathlib.Core.Bool.{Bool, true, false, cond, _&&_}
-use mathlib.Core.Logic.{_⊎_, inl, inr}
+use mathlib.Core.Path.{_≡_, sym, ap, _∙_}
+use mathlib.Core.Bool.{true, false, _&&_}
 use mathlib.Core.List.{List}
 use lib.Dec.{T, leb, leb→le}
 use lib.Ieee.{Float, le}
@@ -10,10 +9,9 @@ use lib.Ieee.Fits.{and-l}
 use Rattle.base.proofs.Pick.{pick-yes, pick-no}
 use Rattle.float.specs.Floats.{_⊗_, _⊘_, f64, d64}
 use Rattle.frame.specs.declared.Point.{Point}
-use Rattle.frame.proofs.Tests.{and-both, either}
+use Rattle.frame.proofs.Tests.{and-both}
 use Rattle.blobs.specs.declared.Blob.{Blob}
 use Rattle.candidates.specs.Ring.{passes, shaped, enough, ringScore, wide, high, centre, sizeOf, ringOf}
-use Rattle.candidates.specs.declared.Ring.{Ring}
 use Rattle.candidates.specs.declared.Ring.the-variants.{Passed, Failed}
 
 -- "Area ≥ 32"

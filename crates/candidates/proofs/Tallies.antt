@@ -5,7 +5,7 @@ use mathlib.Core.Bool.{Bool, true, false, cond, Bool·beq}
 use mathlib.Core.List.{List, [], _∷_, _++_}
 use native.Mathlib.Omega.{arith}
 use lib.Dec.{ltb}
-use lib.ListN.{length, length-append}
+use lib.ListN.{length-append}
 use lib.Ieee.{Float}
 use Rattle.float.specs.Floats.{_⊕_}
 use Rattle.candidates.specs.Ring.{tallied, probeStep, probed}

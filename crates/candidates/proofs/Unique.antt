@@ -1,5 +1,5 @@
 -- The mask decides the patches' records, and the planes the candidates. Assumes nothing.
-use Prim.Native.Nat.{ℕ, zero, suc, _+_, _*_, _≤_, _<_}
+use Prim.Native.Nat.{ℕ, zero, suc, _*_, _≤_, _<_}
 use mathlib.Core.Path.{_≡_, refl, sym, ap, subst, _∙_}
 use mathlib.Core.Logic.{⊎-elim}
 use mathlib.Core.List.{List}
@@ -8,7 +8,7 @@ use native.Mathlib.Omega.{arith}
 use lib.Dec.{T}
 use lib.Ieee.{Float}
 use lib.ListN.{length, getD}
-use Rattle.blobs.specs.Patches.{Dark, Touch, Joined, total, Marks, Least, Greatest, one, column, row, PatchOf, First, patchAt, PatchList}
+use Rattle.blobs.specs.Patches.{Joined, total, Marks, Least, Greatest, one, column, row, PatchOf, First, patchAt, PatchList}
 use Rattle.blobs.proofs.Joins.{joined-sym}
 use Rattle.blobs.specs.declared.Blob.{Blob}
 use Rattle.candidates.specs.Ring.{passes, candidateAt, candidateOf, CandidateList}

@@ -25,6 +25,7 @@ use blobs::Blob;
 use blobs::internal::blob_at;
 use blobs::internal::label;
 use float::to_usize;
+use float::widen;
 use frame::FrameSpec;
 use frame::Point;
 use frame::internal::capture_small;
@@ -35,16 +36,6 @@ use markers::internal::no_layout;
 use mask::internal::planes;
 
 // ---- verify_bullseye
-
-// Rust's `x as f64`: every f32 is an f64.
-fn widen(x: f32) -> f64
-    ensures { λ r. ⌜ r ≡ x ⌝ }
-{
-    if x != x {
-        return 0.0 / 0.0;
-    }
-    x as f64
-}
 
 // 1 where the mask's entry is as wanted.
 fn agrees(entry: u8, dark: bool) -> u32

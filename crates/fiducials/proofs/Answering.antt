@@ -1,13 +1,12 @@
 -- The answers of the functions behind `detect_fiducials`. Assumes nothing.
-use Prim.Native.Nat.{ℕ, zero, suc, _+_, _*_, _≤_, _<_}
+use Prim.Native.Nat.{ℕ, zero, suc, _≤_, _<_}
 use mathlib.Core.Path.{_≡_, refl, sym, ap, subst, _∙_}
-use mathlib.Core.Bool.{Bool, true, false, not, cond, _||_}
+use mathlib.Core.Bool.{Bool, true, false, not, _||_}
 use mathlib.Core.Logic.{_⊎_, inl, inr, ⊎-elim}
 use mathlib.Core.List.{List}
 use native.Mathlib.Omega.{arith}
 use borrow.Author.Tests.{lt-ltb, le-ltb}
-use lib.Dec.{T, ltb, eqb}
-use lib.ListN.{getD}
+use lib.Dec.{ltb, eqb}
 use lib.Ieee.{Float, lt, neg}
 use Rattle.base.specs.Loops.{turns}
 use Rattle.base.proofs.Pick.{pick-yes, pick-no}

@@ -1,28 +1,26 @@
 -- A detection, from a look and the corners. Assumes nothing.
-use Prim.Native.Nat.{ℕ, zero, suc, _+_, _*_, _/_, _≤_, _<_}
+use Prim.Native.Nat.{ℕ, zero, suc, _*_, _/_, _≤_, _<_}
 use mathlib.Core.Path.{_≡_, refl, sym, ap, subst, _∙_}
 use mathlib.Core.Bool.{Bool, true, false, not, cond}
-use mathlib.Core.Logic.{_⊎_, inl, inr, ⊎-elim}
-use mathlib.Core.List.{List}
+use mathlib.Core.Logic.{⊎-elim}
 use native.Mathlib.Nat.{le-antisymm}
 use native.Mathlib.Omega.{arith}
 use lib.Dec.{T, T-not}
 use lib.ListN.{length, getD}
 use Rattle.base.proofs.Plane.{le-or-lt}
 use Rattle.frame.specs.Image.{Image}
-use Rattle.frame.specs.Refusals.{Check, Tested, lowestOf, Lowest, verdictOf, frameOutside, captureWrong, captureSmall}
+use Rattle.frame.specs.Refusals.{lowestOf, Lowest, verdictOf, frameOutside, captureWrong, captureSmall}
 use Rattle.frame.specs.declared.FrameSpec.{FrameSpec}
 use Rattle.frame.specs.declared.Point.{Point}
 use Rattle.frame.proofs.Lowest.{none-tested}
-use Rattle.sampling.specs.Luma.{lumaPlane}
 use Rattle.mask.specs.Mask.{maskPlane}
-use Rattle.blobs.specs.Patches.{PatchList, patchAt}
+use Rattle.blobs.specs.Patches.{patchAt}
 use Rattle.blobs.specs.Stack.{mostWaiting}
 use Rattle.markers.specs.Layout.{noLayout}
 use Rattle.candidates.specs.Areas.{Areas, smallest, shorter, testsBy, lookTests, lengthsOf}
 use Rattle.candidates.specs.Bounds.{Ready}
 use Rattle.candidates.specs.Doors.{Looked}
-use Rattle.candidates.specs.Ring.{CandidateList, centerAt, centre}
+use Rattle.candidates.specs.Ring.{centerAt}
 use Rattle.candidates.specs.declared.Lengths.{Lengths}
 use Rattle.candidates.proofs.Looks.{tests-rising}
 use Rattle.candidates.proofs.Room.{candidates-few}
@@ -30,13 +28,13 @@ use Rattle.base.proofs.Table.{length-table}
 use Rattle.frame.specs.declared.Quad.{Quad}
 use Rattle.frame.specs.declared.Verdict.{Verdict}
 use Rattle.fiducials.specs.Answers.{quadAt, placesAt, noQuad, noPlaces, cornersAs, cornersOf}
-use Rattle.fiducials.specs.Corners.{Corner, Outermost, pick, quadOf, sharedPick, cornerNumber}
+use Rattle.fiducials.specs.Corners.{Corner, Outermost, pick, sharedPick, cornerNumber}
 use Rattle.fiducials.specs.Corners.Corner.{TL, TR, BR, BL}
 use Rattle.fiducials.specs.Doors.{Undetected, MarkedBy, Cornered, placeOf, centresAt, Detecting, Detection}
 use Rattle.fiducials.specs.declared.Corners.{Corners}
 use Rattle.fiducials.specs.declared.Places.{Places}
 use Rattle.fiducials.proofs.Answering.{number-from-7, number-none, as-number, as-accepted, as-refused, quad-of}
-use Rattle.fiducials.proofs.Named.{same-centre, candidate-passes}
+use Rattle.fiducials.proofs.Named.{same-centre}
 use Rattle.fiducials.proofs.Numbers.{marked-by, share, corner-lowest, tests-lowest}
 use Rattle.fiducials.proofs.Outer.{picks-outermost}
 use Rattle.fiducials.proofs.Picks.{pick-below}

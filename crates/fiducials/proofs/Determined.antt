@@ -1,5 +1,5 @@
 -- A detection's answer is decided by the capture and the frame: "no answer depends on prior work-area contents". Assumes nothing.
-use Prim.Native.Nat.{ℕ, zero, suc, _≤_, _<_}
+use Prim.Native.Nat.{ℕ, zero, suc, _≤_}
 use mathlib.Core.Path.{_≡_, refl, sym, ap, subst, _∙_}
 use mathlib.Core.Logic.{_⊎_, inl, inr, ⊎-elim}
 use mathlib.Core.List.{List}
@@ -14,8 +14,7 @@ use Rattle.candidates.specs.Areas.{Areas, lookTests, lengthsOf}
 use Rattle.candidates.specs.Doors.{Looked}
 use Rattle.candidates.proofs.Determined as look
 use Rattle.candidates.proofs.Looks.{tests-rising}
-use Rattle.fiducials.specs.Answers.{noQuad, noPlaces}
-use Rattle.fiducials.specs.Doors.{Undetected, Detection, centresAt}
+use Rattle.fiducials.specs.Doors.{Undetected, Detection}
 use Rattle.fiducials.specs.Doors.Undetected.{tested, few, shared, crooked}
 use Rattle.fiducials.specs.declared.Places.{Places}
 use Rattle.fiducials.proofs.Unique.{corners-mark, marked-unique, places-unique}

@@ -1,16 +1,14 @@
 -- The keys of a passing patch's centre are numbers, so the pick is always the outermost patch. Assumes nothing.
 use mathlib.Core.Path.{_≡_, refl, sym, ap, subst, _∙_}
 use mathlib.Core.Bool.{Bool, true, false, not, cond, _&&_, _||_, Bool·beq}
-use mathlib.Core.Logic.{_⊎_, inl, inr, ⊎-elim}
-use mathlib.Core.List.{List}
 use Prim.Native.Nat.{ℕ, zero, suc, _+_, _*_, _-_, _/_, _%_, _^_, _≤_, _<_, compare}
-use native.Mathlib.Nat.{le-trans, le-of-eq, mul-comm, mul-assoc, mul-left-comm, mul-right-comm, mul-le-mul-right, mul-le-mul-left, mul-le-mul, mul-one, one-mul, add-mul}
+use native.Mathlib.Nat.{le-trans, le-of-eq, mul-comm, mul-assoc, mul-le-mul-right, mul-le-mul-left, mul-one, one-mul}
 use native.Mathlib.Omega.{arith}
-use lib.Dec.{T, leb, ltb, eqb, leb→le, ltb→lt, eqb→eq, not-T, T-not}
+use lib.Dec.{T, ltb, eqb, ltb→lt, eqb→eq}
 use lib.IntN.{ℤ, pos}
 use lib.Count.{trailingZeros}
-use lib.Ieee.{minus, Float, nan, inf, fin, Format, binary64, up, down, odd, units, round, nearest, size, low, prec, emax, sum, add, sub, neg, div, ofInt, lt, eq, le, isNan, unlike, below, level}
-use lib.Ieee.Fits.{and-l, and-r, down-pos, up-pos}
+use lib.Ieee.{minus, Float, nan, inf, fin, Format, binary64, up, down, odd, units, round, nearest, size, low, prec, emax, sum, add, sub, neg, div, ofInt, lt, eq, le, isNan, unlike}
+use lib.Ieee.Fits.{down-pos}
 use lib.Ieee.Order.{round-mono}
 use Rattle.blobs.specs.declared.Blob.{Blob}
 use Rattle.frame.specs.declared.Point.{Point}

@@ -1,14 +1,14 @@
 -- The patches that `pick` names among the candidates are the outermost ones, by meaning. Assumes nothing.
-use mathlib.Core.Path.{_≡_, refl, sym, ap, subst, _∙_}
-use mathlib.Core.Bool.{Bool, not}
-use mathlib.Core.Logic.{_⊎_, inl, inr, ⊎-elim}
+use mathlib.Core.Path.{_≡_, sym, ap, subst, _∙_}
+use mathlib.Core.Bool.{not}
+use mathlib.Core.Logic.{⊎-elim}
 use mathlib.Core.List.{List}
 use Prim.Native.Nat.{ℕ, _≤_, _<_}
-use native.Mathlib.Nat.{le-antisymm, eq-or-lt-of-le}
+use native.Mathlib.Nat.{eq-or-lt-of-le}
 use native.Mathlib.Omega.{arith}
 use lib.Dec.{T, T-not}
 use lib.Ieee.{Float}
-use lib.ListN.{length, getD}
+use lib.ListN.{getD}
 use Rattle.frame.specs.declared.FrameSpec.{FrameSpec}
 use Rattle.candidates.specs.declared.Candidate.{Candidate}
 use Rattle.blobs.specs.declared.Blob.{Blob}
@@ -16,7 +16,7 @@ use Rattle.frame.specs.declared.Point.{Point}
 use Rattle.frame.specs.Image.{Image}
 use Rattle.sampling.specs.Luma.{lumaPlane}
 use Rattle.mask.specs.Mask.{maskPlane}
-use Rattle.blobs.specs.Patches.{First, PatchOf, PatchList, patchAt}
+use Rattle.blobs.specs.Patches.{PatchOf, PatchList, patchAt}
 use Rattle.candidates.specs.Ring.{CandidateList, centerAt, candidateAt, candidateOf, passes, centre}
 use Rattle.fiducials.specs.Corners.{Corner, Passing, Outermost, further, pick}
 use Rattle.fiducials.proofs.Picks.{Number, Best, pick-best, pick-below}

@@ -1,25 +1,24 @@
 -- From what a call works out to the lowest number by meaning. Assumes nothing.
-use mathlib.Core.Path.{_≡_, refl, sym, ap, subst, _∙_}
-use mathlib.Core.Bool.{Bool, true, false, not, cond, _&&_, _||_}
+use mathlib.Core.Path.{_≡_, refl, sym, subst, _∙_}
+use mathlib.Core.Bool.{Bool, true, false, not, cond, _||_}
 use mathlib.Core.Logic.{_⊎_, inl, inr, ⊎-elim}
-use mathlib.Core.List.{List, [], _∷_}
-use Prim.Native.Nat.{ℕ, zero, suc, _≤_, _<_}
+use mathlib.Core.List.{List}
+use Prim.Native.Nat.{ℕ, _≤_, _<_}
 use native.Mathlib.Nat.{le-antisymm}
 use native.Mathlib.Omega.{arith}
-use lib.Dec.{T, leb, ltb, eqb, ltb→lt, nltb→le, eqb→eq, eqb-refl, T-not, not-T}
+use lib.Dec.{T, ltb, eqb, ltb→lt, nltb→le, eqb→eq, T-not}
 use lib.Ieee.{Float}
 use lib.Ieee.Fits.{eq→eqb}
-use lib.ListN.{length, getD}
+use lib.ListN.{getD}
 use Rattle.frame.specs.declared.FrameSpec.{FrameSpec}
-use Rattle.blobs.specs.declared.Blob.{Blob}
 use Rattle.frame.specs.declared.Point.{Point}
 use Rattle.frame.specs.declared.Quad.{Quad}
 use Rattle.frame.specs.Image.{Image}
 use Rattle.sampling.specs.Luma.{lumaPlane}
 use Rattle.mask.specs.Mask.{maskPlane}
 use Rattle.blobs.specs.Patches.{PatchList, patchAt}
-use Rattle.candidates.specs.Ring.{CandidateList, centre}
-use Rattle.fiducials.specs.Corners.{Corner, Passing, Outermost, pick, quadOf, sharedPick, oneWay, tooSmall, cornerNumber}
+use Rattle.candidates.specs.Ring.{CandidateList}
+use Rattle.fiducials.specs.Corners.{Corner, Outermost, pick, quadOf, sharedPick, oneWay, tooSmall, cornerNumber}
 use Rattle.fiducials.specs.Corners.Corner.{TL, TR, BR, BL}
 use Rattle.frame.specs.Refusals.{Check, Tested, lowestOf, Lowest}
 use Rattle.fiducials.specs.Doors.{Undetected, FourPass, Shared, MarkedBy}

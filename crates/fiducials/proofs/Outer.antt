@@ -1,29 +1,25 @@
 -- The corner theorem with no hypothesis on keys: in a capture within the limits the picks are the outermost patches. Assumes nothing.
-use mathlib.Core.Path.{_≡_, refl, sym, ap, subst, _∙_}
-use mathlib.Core.Bool.{Bool, _&&_}
-use mathlib.Core.Logic.{_⊎_, inl, inr, ⊎-elim}
+use mathlib.Core.Path.{_≡_, refl, sym, ap, subst}
 use mathlib.Core.List.{List}
-use Prim.Native.Nat.{ℕ, zero, suc, _+_, _*_, _/_, _%_, _^_, _≤_, _<_, min}
-use native.Mathlib.Nat.{le-trans, le-of-eq, mul-le-mul, mul-le-mul-left, mul-one, zero-mul, one-mul, mod-le, div-le-self}
+use Prim.Native.Nat.{ℕ, zero, suc, _*_, _^_, _≤_, _<_}
+use native.Mathlib.Nat.{le-trans, le-of-eq, mul-le-mul, mul-one, mod-le, div-le-self}
 use native.Mathlib.Omega.{arith}
-use lib.Dec.{T, leb, leb→le}
-use lib.Ieee.{Float, le}
-use lib.Ieee.Fits.{and-l}
+use lib.Dec.{leb→le}
+use lib.Ieee.{Float}
 use lib.ListN.{length, getD}
 use Rattle.frame.specs.declared.FrameSpec.{FrameSpec}
 use Rattle.blobs.specs.declared.Blob.{Blob}
-use Rattle.float.specs.Floats.{_⊗_, _⊘_, f64, d64}
 use Rattle.base.specs.Loops.{table}
 use Rattle.frame.specs.Image.{Image}
 use Rattle.sampling.specs.Luma.{lumaPlane}
 use Rattle.mask.specs.Mask.{maskPlane, maskEntry}
-use Rattle.blobs.specs.Patches.{Joined, Marks, total, one, column, row, PatchOf, PatchList, patchAt}
-use Rattle.candidates.specs.Ring.{CandidateList, passes, shaped, enough, ringScore, wide, high, centre}
+use Rattle.blobs.specs.Patches.{Joined, total, one, column, row, PatchList, patchAt}
+use Rattle.candidates.specs.Ring.{CandidateList, centre}
 use Rattle.fiducials.specs.Corners.{Corner, Passing, Outermost, pick}
 use Rattle.candidates.proofs.Rules.{passes-area}
 use Rattle.candidates.proofs.Sums.{total-small, total-capped, marks-few}
 use Rattle.fiducials.proofs.Picks.{Number}
-use Rattle.fiducials.proofs.Keys.{Finite, centre-finite, key-number}
+use Rattle.fiducials.proofs.Keys.{centre-finite, key-number}
 use Rattle.fiducials.proofs.Named.{centreAt, place, same-centre, candidate-passes, pick-outermost}
 
 length-table : {A : Type 0} (n : ℕ) (f : ℕ → A) → length (table f n) ≡ n

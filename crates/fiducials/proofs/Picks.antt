@@ -1,12 +1,12 @@
 -- `pick` names the candidate that lies furthest out, and the first of equals. Assumes nothing.
-use mathlib.Core.Path.{_≡_, refl, sym, ap, subst, _∙_}
+use mathlib.Core.Path.{_≡_, refl, sym, subst}
 use mathlib.Core.Bool.{Bool, true, false, not, cond}
-use mathlib.Core.Logic.{_⊎_, inl, inr, ⊎-elim}
-use Prim.Native.Nat.{ℕ, zero, suc, _+_, _≤_, _<_}
+use mathlib.Core.Logic.{_⊎_, ⊎-elim}
+use Prim.Native.Nat.{ℕ, zero, suc, _≤_, _<_}
 use native.Mathlib.Nat.{eq-or-lt-of-le, le-of-suc-le-suc}
 use native.Mathlib.Omega.{arith}
 use lib.Dec.{T, T-not, not-T}
-use lib.Ieee.{Float, lt, isNan}
+use lib.Ieee.{isNan}
 use Rattle.frame.specs.declared.Point.{Point}
 use Rattle.base.specs.Loops.{turns}
 use Rattle.fiducials.specs.Corners.{Corner, key, further, pickStep, pick}

@@ -1,7 +1,7 @@
 -- The picture decides the corners: their patches, centres and places. Assumes nothing.
-use Prim.Native.Nat.{ℕ, _≤_, _<_}
+use Prim.Native.Nat.{ℕ, _<_}
 use mathlib.Core.Path.{_≡_, refl, sym, ap, subst, _∙_}
-use mathlib.Core.Logic.{_⊎_, inl, inr, ⊎-elim}
+use mathlib.Core.Logic.{⊎-elim}
 use mathlib.Core.List.{List}
 use native.Mathlib.Nat.{le-antisymm}
 use native.Mathlib.Omega.{arith}
@@ -15,7 +15,7 @@ use Rattle.blobs.specs.Patches.{PatchOf, PatchList, patchAt}
 use Rattle.blobs.specs.declared.Blob.{Blob}
 use Rattle.candidates.specs.Ring.{centre}
 use Rattle.candidates.proofs.Unique.{patch-unique, list-firsts}
-use Rattle.fiducials.specs.Corners.{Corner, Passing, Outermost}
+use Rattle.fiducials.specs.Corners.{Corner, Outermost}
 use Rattle.fiducials.specs.Corners.Corner.{TL, TR, BR, BL}
 use Rattle.fiducials.specs.Doors.{MarkedBy, Cornered, placeOf, centresAt}
 use Rattle.fiducials.specs.declared.Places.{Places}

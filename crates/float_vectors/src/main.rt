@@ -118,9 +118,15 @@ fn print_difference(b: &[u8], helper: usize, p: usize, number: u64) {
         let step = words(helper);
         let mut k: usize = 0;
         while k < step {
-            vectors::print_word(vectors::word(b, p + k));
+            print_word(vectors::word(b, p + k));
             k += 1;
         }
-        vectors::print_word(answer(b, helper, p));
+        print_word(answer(b, helper, p));
     }
+}
+
+// Writes w as 16 hexadecimal digits, on a line.
+fn print_word(w: u64) {
+    let line = vectors::hex_line(w);
+    io::write_all(1, &line);
 }

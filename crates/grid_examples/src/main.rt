@@ -143,8 +143,10 @@ fn score_at(b: &[u8], capture: &[u8]) -> GridScore {
 
 // ---- answers
 
+// Writes w as 16 hexadecimal digits, on a line.
 fn print_word(w: u64) {
-    vectors::print_word(w);
+    let line = vectors::hex_line(w);
+    io::write_all(1, &line);
 }
 
 fn print_float(x: f64) {

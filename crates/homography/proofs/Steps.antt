@@ -9,7 +9,7 @@ use Rattle.base.specs.Loops.{turns}
 use Rattle.base.proofs.Turns.{turns-leave}
 use Rattle.base.proofs.Pick.{pick-yes, pick-no}
 use Rattle.float.specs.Floats.{f64, absOf}
-use Rattle.homography.specs.Equations.{entry, better, Elimination, eliminate, eliminated, noPivot, cleared, solvable, solution, lastColumn}
+use Rattle.homography.specs.Equations.{entry, better, pivotOf, swapped, divided, clearAt, Elimination, eliminate, eliminated, noPivot, cleared, solvable, solution, lastColumn}
 use Rattle.homography.specs.Inner.{unknowns}
 
 -- a later row is the pivot only by a larger absolute value
@@ -21,6 +21,15 @@ module _ (a : List Float) (col r p : ℕ) where
   pub better-no : lt (absOf (entry a p col)) (absOf (entry a r col)) ≡ false → p ≡ better a col r p
   unfolding better
   better-no e = pick-no _ _ _ e
+
+-- one column, from its three steps
+pub column-cleared :
+    (a b x : List Float) (col p : ℕ)
+    → p ≡ pivotOf a col → b ≡ swapped a col p → x ≡ divided b col col (entry b col col)
+    → turns 8 (clearAt col) x ≡ cleared a col
+unfolding cleared
+column-cleared a b x col p e f g =
+    ap (turns 8 (clearAt col)) (g ∙ ap (λ y. divided y col col (entry y col col)) (f ∙ ap (swapped a col) e))
 
 -- the elimination that goes on with a, and that has ended with it
 abbrev pub on : List Float → Elimination

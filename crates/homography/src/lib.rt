@@ -37,15 +37,22 @@ ghost use Rattle.homography.specs.Inner as inner;
 // Nine entries by rows: entry j of row i stands at i * 3 + j.
 pub type Mat3 = [f64; 9];
 
+// The entry in row i and column j of the product a b.
+fn product_at(a: &Mat3, b: &Mat3, i: usize, j: usize) -> f64
+    requires { ⌜ (i < 3) × (j < 3) ⌝ }
+    ensures { λ r. ⌜ r ≡ mat.productAt (now (a .entry)) (now (b .entry)) j i ⌝ }
+{
+    let k = i * 3;
+    a[k] * b[j] + a[k + 1] * b[3 + j] + a[k + 2] * b[6 + j]
+}
+
 // The matrix product a b.
 pub fn mat3_mul(a: &Mat3, b: &Mat3) -> Mat3
     ensures { λ r. ⌜ r ≡ mat.mat3Mul (now (a .entry)) (now (b .entry)) ⌝ }
 {
     let mut out = [0.0; 9];
     for n in 0..9 {
-        let i = n / 3 * 3;
-        let j = n % 3;
-        out[n] = a[i] * b[j] + a[i + 1] * b[3 + j] + a[i + 2] * b[6 + j];
+        out[n] = product_at(a, b, n / 3, n % 3);
     }
     out
 }
@@ -97,6 +104,17 @@ fn equations(src: Quad, dst: Quad) -> [f64; 72]
     a
 }
 
+// The eight unknowns with 1 behind them.
+fn with_one(t: [f64; 8]) -> Mat3
+    ensures { λ r. ⌜ r ≡ inner.withOne t ⌝ }
+{
+    let mut m = [1.0; 9];
+    for i in 0..8 {
+        m[i] = t[i];
+    }
+    m
+}
+
 // The third coordinate that apply divides by: at w = 0 the point lies on the line that goes to
 // infinity, and around it the quotient would be infinite or a NaN.
 fn divisor(w: f64) -> f64
@@ -128,7 +146,7 @@ impl Homography {
         let s = solve::solve8(a);
         if s.ok {
             let t = s.h;
-            let m = [t[0], t[1], t[2], t[3], t[4], t[5], t[6], t[7], 1.0];
+            let m = with_one(t);
             let h = Self::from_mat(m);
             return Solved {
                 verdict: Verdict::Accepted,
@@ -142,26 +160,36 @@ impl Homography {
         }
     }
 
+    // Row i times (x, y, 1).
+    fn row_times(self, i: usize, p: Point) -> f64
+        requires { ⌜ i < 3 ⌝ }
+        ensures { λ r. ⌜ r ≡ mat.rowTimes self i p ⌝ }
+    {
+        let m = self.m;
+        let k = i * 3;
+        m[k] * p.x + m[k + 1] * p.y + m[k + 2]
+    }
+
     // Where the matrix takes p.
     pub fn apply(self, p: Point) -> Point
         ensures { λ r. ⌜ r ≡ mat.apply self p ⌝ }
     {
-        let m = self.m;
-        let w = divisor(m[6] * p.x + m[7] * p.y + m[8]);
+        let w = divisor(self.row_times(2, p));
         Point {
-            x: (m[0] * p.x + m[1] * p.y + m[2]) / w,
-            y: (m[3] * p.x + m[4] * p.y + m[5]) / w,
+            x: self.row_times(0, p) / w,
+            y: self.row_times(1, p) / w,
         }
     }
 
     // The inverse: the transposed cofactors over the determinant, which is expanded along the first
-    // row; refusal 11 where its absolute value is below 1e-12.
+    // row, so is the first entry of the product of the two; refusal 11 where its absolute value is
+    // below 1e-12.
     pub fn inverse(self) -> Solved
         ensures { λ r. ⌜ r ≡ mat.inverse self ⌝ }
     {
         let m = self.m;
         let c = cofactors(m);
-        let det = m[0] * c[0] + m[1] * c[3] + m[2] * c[6];
+        let det = product_at(&m, &c, 0, 0);
         if float::abs(det) < 1e-12 {
             let h = Self::identity();
             return Solved {
@@ -178,20 +206,28 @@ impl Homography {
     }
 }
 
+// One cofactor by the places of its four entries.
+fn minor(m: Mat3, i: usize, j: usize, k: usize, l: usize) -> f64
+    requires { ⌜ (i < 9) × (j < 9) × (k < 9) × (l < 9) ⌝ }
+    ensures { λ r. ⌜ r ≡ inner.minorAt m i j k l ⌝ }
+{
+    m[i] * m[j] - m[k] * m[l]
+}
+
 // The cofactors, transposed.
 fn cofactors(m: Mat3) -> Mat3
     ensures { λ r. ⌜ r ≡ mat.adjugate m ⌝ }
 {
     [
-        m[4] * m[8] - m[5] * m[7],
-        m[2] * m[7] - m[1] * m[8],
-        m[1] * m[5] - m[2] * m[4],
-        m[5] * m[6] - m[3] * m[8],
-        m[0] * m[8] - m[2] * m[6],
-        m[2] * m[3] - m[0] * m[5],
-        m[3] * m[7] - m[4] * m[6],
-        m[1] * m[6] - m[0] * m[7],
-        m[0] * m[4] - m[1] * m[3],
+        minor(m, 4, 8, 5, 7),
+        minor(m, 2, 7, 1, 8),
+        minor(m, 1, 5, 2, 4),
+        minor(m, 5, 6, 3, 8),
+        minor(m, 0, 8, 2, 6),
+        minor(m, 2, 3, 0, 5),
+        minor(m, 3, 7, 4, 6),
+        minor(m, 1, 6, 0, 7),
+        minor(m, 0, 4, 1, 3),
     ]
 }
 
@@ -199,17 +235,11 @@ fn cofactors(m: Mat3) -> Mat3
 fn quotients(c: Mat3, d: f64) -> Mat3
     ensures { λ r. ⌜ r ≡ mat.quotients c d ⌝ }
 {
-    [
-        c[0] / d,
-        c[1] / d,
-        c[2] / d,
-        c[3] / d,
-        c[4] / d,
-        c[5] / d,
-        c[6] / d,
-        c[7] / d,
-        c[8] / d,
-    ]
+    let mut out = [0.0; 9];
+    for i in 0..9 {
+        out[i] = c[i] / d;
+    }
+    out
 }
 
 // The square of the distance between two points.

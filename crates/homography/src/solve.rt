@@ -93,7 +93,12 @@ pub struct Solution {
 fn last_column(a: &[f64; 72]) -> [f64; 8]
     ensures { λ r. ⌜ r ≡ lastColumn (now (a .entry)) ⌝ }
 {
-    [a[8], a[17], a[26], a[35], a[44], a[53], a[62], a[71]]
+    let mut h = [0.0; 8];
+    for r in 0..8 {
+        let i = r * 9 + 8;
+        h[r] = a[i];
+    }
+    h
 }
 
 // The eight unknowns. There are none, and zeros stand for them, where the pivot of some column has

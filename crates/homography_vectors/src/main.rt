@@ -75,7 +75,7 @@ fn homography_at(b: &[u8]) -> Homography {
 // ---- answers
 
 fn print_float(x: f64) {
-    vectors::print_word(vectors::bits(x));
+    print_word(vectors::bits(x));
 }
 
 fn print_point(p: Point) {
@@ -93,10 +93,16 @@ fn print_matrix(m: [f64; 9]) {
 fn print_solved(s: Solved) {
     let verdict = s.verdict;
     match verdict {
-        Verdict::Accepted => vectors::print_word(0),
-        Verdict::Refused(n) => vectors::print_word(n as u64),
+        Verdict::Accepted => print_word(0),
+        Verdict::Refused(n) => print_word(n as u64),
     }
     let h = s.h;
     let m = h.m;
     print_matrix(m);
+}
+
+// Writes w as 16 hexadecimal digits, on a line.
+fn print_word(w: u64) {
+    let line = vectors::hex_line(w);
+    io::write_all(1, &line);
 }

@@ -49,8 +49,8 @@ fn print_frame(f: Framed) {
 }
 
 fn print_point(p: Point) {
-    vectors::print_word(vectors::bits(p.x));
-    vectors::print_word(vectors::bits(p.y));
+    print_word(vectors::bits(p.x));
+    print_word(vectors::bits(p.y));
 }
 
 fn print_quad(q: Quad) {
@@ -80,7 +80,7 @@ fn constants() {
     print_rgb(frame::BLACK);
     print_rgb(frame::WHITE);
     text(b"\n");
-    vectors::print_word(vectors::bits(markers::MARKER_UNITS));
+    print_word(vectors::bits(markers::MARKER_UNITS));
 }
 
 fn sizes(cell: usize) {
@@ -265,4 +265,10 @@ fn main() {
     let n = io::read_full(0, &mut input);
     let mut picture = [0u8; 132000];
     run_all(&input[..n], &mut picture);
+}
+
+// Writes w as 16 hexadecimal digits, on a line.
+fn print_word(w: u64) {
+    let line = vectors::hex_line(w);
+    io::write_all(1, &line);
 }

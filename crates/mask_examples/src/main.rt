@@ -41,7 +41,7 @@ fn print_luma(luma: &[f32]) {
 
 fn print_integral(integral: &[f64]) {
     for i in 0..integral.len() {
-        vectors::print_word(vectors::bits(integral[i]));
+        print_word(vectors::bits(integral[i]));
     }
 }
 
@@ -63,4 +63,10 @@ fn print_entry(entry: u8) {
         _ => io::print_decimal(1, entry as u64),
     }
     ;
+}
+
+// Writes w as 16 hexadecimal digits, on a line.
+fn print_word(w: u64) {
+    let line = vectors::hex_line(w);
+    io::write_all(1, &line);
 }

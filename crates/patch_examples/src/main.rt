@@ -49,7 +49,7 @@ fn run(text: &[u8]) {
     let mut waiting = [0u32; 4096];
     let mut patches = [0u64; 14336];
     let mut out = [0u8; 301119];
-    let k = patch_text::answer(
+    let k = patch_text::internal::answer(
         &text[..most],
         &mut mask,
         &mut seen,

@@ -58,7 +58,7 @@ fn point_at(b: &[u8]) -> Point {
 // ---- answers
 
 fn print_float(x: f64) {
-    vectors::print_word(vectors::bits(x));
+    print_word(vectors::bits(x));
 }
 
 fn print_point(p: Point) {
@@ -70,12 +70,18 @@ fn print_point(p: Point) {
 fn print_lens(l: Lens) {
     match l {
         Lens::Is(r) => {
-            vectors::print_word(0);
+            print_word(0);
             print_float(r.k);
             print_float(r.cx);
             print_float(r.cy);
             print_float(r.norm);
         }
-        Lens::Refused(n) => vectors::print_word(n as u64),
+        Lens::Refused(n) => print_word(n as u64),
     }
+}
+
+// Writes w as 16 hexadecimal digits, on a line.
+fn print_word(w: u64) {
+    let line = vectors::hex_line(w);
+    io::write_all(1, &line);
 }

@@ -1,2 +1,3 @@
 -- Lemmas that several proofs of `vectors` cite.
 mod Nans
+mod Lines

@@ -1,10 +1,10 @@
 // What the test programs share: 64-bit words read from a buffer, floats by their bit patterns, and
-// a word printed on a line. A pattern is IEEE 754's; all NaNs are written as one.
+// a word as a line of text. A pattern is IEEE 754's; all NaNs are written as one.
 ghost use mathlib.Core.Path.{_≡_};
 ghost use Prim.Native.Nat.{_+_, _≤_, _<_};
 ghost use lib.ListN.{length, getD};
 ghost use lib.Ieee.{binary32, binary64, ofBits, toBits};
-ghost use Rattle.vectors.specs.Words.{littleEndian, wordOf};
+ghost use Rattle.vectors.specs.Words.{littleEndian, wordOf, hexLine};
 
 // Word i of b, the lowest byte first, and 0 where b is too short to hold it.
 pub fn word(b: &[u8], i: usize) -> u64
@@ -77,8 +77,15 @@ pub fn single(p: u32) -> f32
     }
 }
 
-// Writes w to standard output as 16 hexadecimal digits and a line feed.
-pub fn print_word(w: u64) {
-    io::print_hex(1, w, 16);
-    io::write_all(1, b"\n");
+// The 16 hexadecimal digits of w, in lower case, and a line feed.
+pub fn hex_line(w: u64) -> [u8; 17]
+    ensures { λ r. ⌜ r ≡ hexLine w ⌝ }
+{
+    let mut digits = [0u8; 16];
+    io::hex(w, 16, &mut digits);
+    let mut line = [b'\n'; 17];
+    for i in 0..16 {
+        line[i] = digits[i];
+    }
+    line
 }

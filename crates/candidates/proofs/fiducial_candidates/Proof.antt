@@ -1,18 +1,14 @@
+-- `candidates::fiducial_candidates` meets its contract: what `look` leaves, where no test refuses. Assumes nothing.
+use native.Mathlib.Omega.{arith}
+use mathlib.Core.Path.{refl, sym, ap, _∙_}
 use Rattle.frame.specs.Refusals.{verdictOf}
 use Rattle.candidates.proofs.Looks.{verdict-refused, verdict-accepted, ready}
-use borrow.Author.Needs.{needs}
-use native.Mathlib.Omega.{arith}
-use Prim.Native.Nat.{ℕ, suc, _≤_, _<_, _+_, _*_, _-_}
-use mathlib.Core.Path.{_≡_, refl, sym, ap, _∙_}
-use lib.ListN.{length, getD, set, length-set}
 use Rattle.candidates.proofs.fiducial_candidates.Statement.{statement}
 use Rattle.candidates.proofs.fiducial_candidates.Tie as tie
 
--- src/lib.rt:106:9
 refused-requires : tie.Need-refused-requires
-refused-requires c κs = search needs
+refused-requires c κs = tt
 
--- src/lib.rt:109:9
 returns : tie.Need-returns
 returns c =
     let e = c .before .refused .ensures in
@@ -23,49 +19,43 @@ returns c =
       refused = λ z. (refl, refl, refl, refl);
     }
 
--- src/lib.rt:116:9
 look-requires : tie.Need-look-requires
 look-requires c κs = ready _ _ _ (sym (c .before .before .before .before .before .before .before .before .before .refused .ensures) ∙ c .before .before .before .before .before .before .before .before .if1 .left)
 
--- src/lib.rt:77:1
+-- where `look` has returned
+abbrev after : tie.After-slice-known16 → tie.After-look
+after c = c .before .before .before .before .before .before .before .before .before .before .before .before .before .before .before .before
+
 same-length : tie.Need-same-length
-same-length c = search needs
+same-length c = after c .look .kept .1 .1 .1 .1 .0
 
--- src/lib.rt:77:1
 same-length-2 : tie.Need-same-length-2
-same-length-2 c = search needs
+same-length-2 c = after c .look .kept .1 .1 .1 .1 .1 .0
 
--- src/lib.rt:77:1
 same-length-3 : tie.Need-same-length-3
-same-length-3 c = search needs
+same-length-3 c = after c .look .kept .1 .1 .1 .1 .1 .1 .0
 
--- src/lib.rt:77:1
 same-length-4 : tie.Need-same-length-4
-same-length-4 c = search needs
+same-length-4 c = after c .look .kept .1 .1 .1 .1 .1 .1 .1 .0
 
--- src/lib.rt:77:1
 same-length-5 : tie.Need-same-length-5
-same-length-5 c = search needs
+same-length-5 c = after c .look .kept .1 .1 .1 .1 .1 .1 .1 .1 .0
 
--- src/lib.rt:77:1
 same-length-6 : tie.Need-same-length-6
-same-length-6 c = search needs
+same-length-6 c = after c .look .kept .1 .1 .1 .1 .1 .1 .1 .1 .1 .0
 
--- src/lib.rt:77:1
 same-length-7 : tie.Need-same-length-7
-same-length-7 c = search needs
+same-length-7 c = after c .look .kept .1 .1 .1 .1 .1 .1 .1 .1 .1 .1 .0
 
--- src/lib.rt:77:1
 same-length-8 : tie.Need-same-length-8
-same-length-8 c = search needs
+same-length-8 c = after c .look .kept .1 .1 .1 .1 .1 .1 .1 .1 .1 .1 .1 .0
 
--- src/lib.rt:77:1
 returns-2 : tie.Need-returns-2
 returns-2 c =
-    let e = sym (c .before .before .before .before .before .before .before .before .before .before .before .before .before .before .before .before .before .before .before .before .before .before .before .before .before .before .refused .ensures) ∙ c .before .before .before .before .before .before .before .before .before .before .before .before .before .before .before .before .before .before .before .before .before .before .before .before .before .if1 .left in
+    let e = sym (after c .before .before .before .before .before .before .before .before .before .before .refused .ensures) ∙ after c .before .before .before .before .before .before .before .before .before .if1 .left in
     record {
       given = verdict-accepted _ e;
-      accepted = λ z. c .before .before .before .before .before .before .before .before .before .before .before .before .before .before .before .before .look .ensures .0;
+      accepted = λ z. after c .look .ensures .0;
       refused = λ z. absurd (omega (arith, e, z));
     }
 

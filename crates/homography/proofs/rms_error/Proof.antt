@@ -1,7 +1,7 @@
 -- `rms_error` meets its contract, from its callees'. Assumes nothing.
 use lib.Ieee.{ofBits, ofInt}
 use borrow.Author.Needs.{needs}
-use Rattle.homography.specs.Homography.{rmsError}
+use Rattle.homography.proofs.Ends.{rms-is}
 use Rattle.homography.proofs.rms_error.Statement.{statement}
 use Rattle.homography.proofs.rms_error.Tie as tie
 
@@ -21,8 +21,11 @@ sqrt-requires : tie.Need-sqrt-requires
 sqrt-requires c κs = search needs
 
 returns : tie.Need-returns
-unfolding rmsError ofBits ofInt
-returns c = cc
+unfolding ofBits ofInt
+returns c =
+    rms-is _ _ _ _ _ _ _ (c .before .before .before .before .squared-distance .ensures)
+    (c .before .before .before .squared-distance2 .ensures) (c .before .before .squared-distance3 .ensures)
+    (c .before .squared-distance4 .ensures) (c .sqrt .ensures .0)
 
 pub rms-error-spec : {M : Type 1} → statement M
 rms-error-spec =

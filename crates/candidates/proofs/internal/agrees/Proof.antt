@@ -1,5 +1,4 @@
 -- `candidates::internal::agrees` meets its contract. Assumes nothing.
-use mathlib.Core.Path.{refl}
 use native.Mathlib.Omega.{arith}
 use borrow.Author.Tests.{lt-ltb, le-ltb}
 use Rattle.candidates.proofs.internal.agrees.Statement.{statement}

@@ -1,73 +1,56 @@
+-- `candidates::internal::candidate_at` meets its contract. Assumes nothing.
 use native.Mathlib.Omega.{arith}
-use Prim.Native.Nat.{ℕ, suc, _≤_, _<_, _+_, _*_, _-_}
-use mathlib.Core.Path.{_≡_, refl, sym, ap, _∙_}
-use lib.ListN.{length, getD, set, length-set}
+use mathlib.Core.Path.{refl}
 use Rattle.candidates.specs.Ring.{candidateAt, centerAt}
 use borrow.Author.Needs.{needs}
 use Rattle.candidates.proofs.internal.candidate_at.Statement.{statement}
 use Rattle.candidates.proofs.internal.candidate_at.Tie as tie
 
--- src/internal.rt:251:14
 mul-at : tie.Need-mul-at
 mul-at c = search needs
 
--- src/internal.rt:253:12
 mul-t6 : tie.Need-mul-t6
 mul-t6 c = search needs
 
--- src/internal.rt:253:12
 shared-slice-read-t8 : tie.Need-shared-slice-read-t8
 shared-slice-read-t8 c = search needs
 
--- src/internal.rt:254:23
 add-t9 : tie.Need-add-t9
 add-t9 c = search needs
 
--- src/internal.rt:254:12
 mul-t10 : tie.Need-mul-t10
 mul-t10 c = search needs
 
--- src/internal.rt:254:12
 shared-slice-read-t12 : tie.Need-shared-slice-read-t12
 shared-slice-read-t12 c = search needs
 
--- src/internal.rt:258:27
 add-t6 : tie.Need-add-t6
 add-t6 c = search needs
 
--- src/internal.rt:258:16
 mul-t9 : tie.Need-mul-t9
 mul-t9 c = search needs
 
--- src/internal.rt:258:16
 shared-slice-read-t12-2 : tie.Need-shared-slice-read-t12-2
 shared-slice-read-t12-2 c = search needs
 
--- src/internal.rt:259:26
 add-t10 : tie.Need-add-t10
 add-t10 c = search needs
 
--- src/internal.rt:259:15
 mul-t14 : tie.Need-mul-t14
 mul-t14 c = search needs
 
--- src/internal.rt:259:15
 shared-slice-read-t8-2 : tie.Need-shared-slice-read-t8-2
 shared-slice-read-t8-2 c = search needs
 
--- src/internal.rt:260:21
 mul-t16 : tie.Need-mul-t16
 mul-t16 c = search needs
 
--- src/internal.rt:260:21
 shared-slice-read-t18 : tie.Need-shared-slice-read-t18
 shared-slice-read-t18 c = search needs
 
--- src/internal.rt:260:21
 cast-t19 : tie.Need-cast-t19
 cast-t19 c = omega (arith, c .shared-slice-known5 .given (c .before .before .before .before .before .args .i))
 
--- src/internal.rt:247:1
 returns : tie.Need-returns
 unfolding candidateAt centerAt
 returns c = refl

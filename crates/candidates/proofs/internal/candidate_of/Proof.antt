@@ -1,7 +1,5 @@
-use native.Mathlib.Omega.{arith}
-use Prim.Native.Nat.{ℕ, suc, _≤_, _<_, _+_, _*_, _-_}
+-- `candidates::internal::candidate_of` meets its contract. Assumes nothing.
 use mathlib.Core.Path.{_≡_, refl, sym, ap, _∙_}
-use lib.ListN.{length, getD, set, length-set}
 use mathlib.Core.Bool.{Bool}
 use lib.Ieee.{Float, binary64, ofBits, ofInt, round, le}
 use Rattle.float.specs.Floats.{d64}
@@ -11,23 +9,18 @@ use borrow.Author.Needs.{needs}
 use Rattle.candidates.proofs.internal.candidate_of.Statement.{statement}
 use Rattle.candidates.proofs.internal.candidate_of.Tie as tie
 
--- src/internal.rt:192:8
 shaped-requires : tie.Need-shaped-requires
 shaped-requires c κs = search needs
 
--- src/internal.rt:193:13
 verify-bullseye-requires : tie.Need-verify-bullseye-requires
 verify-bullseye-requires c κs = search needs
 
--- src/internal.rt:195:33
 center-requires : tie.Need-center-requires
 center-requires c κs = search needs
 
--- src/internal.rt:195:54
 size-requires : tie.Need-size-requires
 size-requires c κs = search needs
 
--- src/internal.rt:195:13
 threshold : ofBits binary64 0x3fe8_f5c2_8f5c_28f6 ≡ d64 78 100
 unfolding ofBits ofInt d64 round
 threshold = refl
@@ -42,13 +35,11 @@ returns c =
     let a = c .before .before .before .before .before .before .before .before .args in
     ring-passed _ _ (a .w) (a .h) (a .blob) _ _ _ (sym (c .before .before .before .before .before .shaped .ensures) ∙ c .before .before .before .before .if1 .taken) (c .before .before .before .verify-bullseye .ensures) (tested _ _ (c .before .before .if2 .taken)) (c .before .center .ensures) (c .size .ensures)
 
--- src/internal.rt:188:1
 returns-2 : tie.Need-returns-2
 returns-2 c =
     let a = c .before .before .before .before .before .before .args in
     ring-low _ _ (a .w) (a .h) (a .blob) _ (sym (c .before .before .before .shaped .ensures) ∙ c .before .before .if1 .taken) (c .before .verify-bullseye .ensures) (tested _ _ (c .if2 .left))
 
--- src/internal.rt:188:1
 returns-3 : tie.Need-returns-3
 returns-3 c =
     let a = c .before .before .before .before .args in

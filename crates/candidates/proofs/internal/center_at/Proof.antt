@@ -1,37 +1,28 @@
-use native.Mathlib.Omega.{arith}
-use Prim.Native.Nat.{ℕ, suc, _≤_, _<_, _+_, _*_, _-_}
-use mathlib.Core.Path.{_≡_, refl, sym, ap, _∙_}
-use lib.ListN.{length, getD, set, length-set}
+-- `candidates::internal::center_at` meets its contract. Assumes nothing.
+use mathlib.Core.Path.{refl}
 use Rattle.candidates.specs.Ring.{centerAt}
 use borrow.Author.Needs.{needs}
 use Rattle.candidates.proofs.internal.center_at.Statement.{statement}
 use Rattle.candidates.proofs.internal.center_at.Tie as tie
 
--- src/internal.rt:278:14
 mul-at : tie.Need-mul-at
 mul-at c = search needs
 
--- src/internal.rt:280:12
 mul-t4 : tie.Need-mul-t4
 mul-t4 c = search needs
 
--- src/internal.rt:280:12
 shared-slice-read-t6 : tie.Need-shared-slice-read-t6
 shared-slice-read-t6 c = search needs
 
--- src/internal.rt:281:23
 add-t7 : tie.Need-add-t7
 add-t7 c = search needs
 
--- src/internal.rt:281:12
 mul-t8 : tie.Need-mul-t8
 mul-t8 c = search needs
 
--- src/internal.rt:281:12
 shared-slice-read-t10 : tie.Need-shared-slice-read-t10
 shared-slice-read-t10 c = search needs
 
--- src/internal.rt:274:1
 returns : tie.Need-returns
 unfolding centerAt
 returns c = refl

@@ -1,3 +1,4 @@
+-- `candidates::internal::list` meets its contract. Assumes nothing.
 use denote.Ref.{now}
 use Rattle.blobs.specs.Patches.{patchAt}
 use Rattle.candidates.specs.Ring.{ringOf, CandidateList}
@@ -6,9 +7,9 @@ use Rattle.candidates.proofs.Held.{blob-held}
 use Rattle.candidates.proofs.Listing.{list-none, list-turn, areas, count-turn, storable}
 use borrow.Author.Needs.{needs}
 use native.Mathlib.Omega.{arith}
-use Prim.Native.Nat.{ℕ, suc, _≤_, _<_, _+_, _*_, _-_}
-use mathlib.Core.Path.{_≡_, refl, sym, ap, subst, _∙_}
-use lib.ListN.{length, getD, set, length-set}
+use Prim.Native.Nat.{_≤_, _*_, _-_}
+use mathlib.Core.Path.{_≡_, sym, ap, subst, _∙_}
+use lib.ListN.{length}
 use Rattle.candidates.proofs.internal.list.Statement.{statement}
 use Rattle.candidates.proofs.internal.list.Tie as tie
 
@@ -19,11 +20,9 @@ Inv-loop mask luma w h patches n candidates₀ blob-index₀ k₀ j₀ candidate
 abbrev μ-loop : tie.MeasureT-loop
 μ-loop mask luma w h patches n candidates₀ blob-index₀ k₀ j₀ candidates blob-index k j = n - j
 
--- src/internal.rt:238:5
 loop-holds : tie.Need-loop-holds Inv-loop μ-loop
 loop-holds c = (list-none _ _ _ _ _ _ _, omega arith, omega arith)
 
--- src/internal.rt:239:51
 -- what the ring rule says of patch j
 ring-is : (c : tie.After-candidate-of Inv-loop μ-loop) → c .candidate-of .result ≡ ringOf (now (c .before .before .before .before .before .before .before .before .before .args .mask)) (now (c .before .before .before .before .before .before .before .before .before .args .luma)) (c .before .before .before .before .before .before .before .before .before .args .w) (c .before .before .before .before .before .before .before .before .before .args .h) (patchAt (now (c .before .before .before .before .before .before .before .before .before .args .patches)) (c .before .before .before .loop .j))
 ring-is c = c .candidate-of .ensures ∙ ap (ringOf (now (c .before .before .before .before .before .before .before .before .before .args .mask)) (now (c .before .before .before .before .before .before .before .before .before .args .luma)) (c .before .before .before .before .before .before .before .before .before .args .w) (c .before .before .before .before .before .before .before .before .before .args .h)) (c .before .blob-at .ensures)
@@ -31,7 +30,6 @@ ring-is c = c .candidate-of .ensures ∙ ap (ringOf (now (c .before .before .bef
 blob-at-requires : tie.Need-blob-at-requires Inv-loop μ-loop
 blob-at-requires c κs = let r : 7 * c .before .before .before .before .before .before .before .args .n ≤ length (now (c .before .before .before .before .before .before .before .args .patches)) = c .before .before .before .before .before .before .before .pre .patches-long in let t = c .loop-test .taken in omega arith
 
--- src/internal.rt:239:13
 candidate-of-requires : tie.Need-candidate-of-requires Inv-loop μ-loop
 candidate-of-requires c κs =
     let a = c .before .before .before .before .before .before .before .before .args in
@@ -41,7 +39,6 @@ candidate-of-requires c κs =
           (blob-held (a .w) (a .h) (now (a .mask)) (now (a .luma)) _ _ (r .planes) (r .patches .records (c .before .before .loop .j) (c .before .loop-test .taken))),
     )
 
--- src/internal.rt:240:9
 store-requires : tie.Need-store-requires Inv-loop μ-loop
 store-requires c κs =
     let a = c .before .before .before .before .before .before .before .before .before .before .before .args in
@@ -49,15 +46,12 @@ store-requires c κs =
     storable (a .w) (a .h) (now (a .mask)) (now (a .luma)) (now (a .patches)) (a .n) (now (a .candidates)) (now (a .blob-index)) (c .before .before .before .before .before .before .before .before .before .before .before .pre)
     (c .before .before .before .before .before .loop .j) (c .before .before .before .before .before .loop .k) (c .before .before .before .before .before .loop .candidates) (c .before .before .before .before .before .loop .blob-index) (c .before .before .candidate-of .result) (c .before .before .before .before .loop-test .taken) (i .1) (i .0 .c-long) (i .0 .p-long) (ring-is (c .before .before))
 
--- src/internal.rt:241:9
 add-j : tie.Need-add-j Inv-loop μ-loop
 add-j c = search needs
 
--- src/internal.rt:238:5
 loop-less : tie.Need-loop-less Inv-loop μ-loop
 loop-less c = search needs
 
--- src/internal.rt:238:5
 loop-again : tie.Need-loop-again Inv-loop μ-loop
 loop-again c =
     let a = c .before .before .before .before .before .before .before .before .before .before .before .before .before .before .before .before .args in
@@ -75,15 +69,12 @@ loop-again c =
       omega arith,
     )
 
--- src/internal.rt:223:1
 same-length : tie.Need-same-length Inv-loop μ-loop
 same-length c = c .before .loop .inv .0 .c-long
 
--- src/internal.rt:223:1
 same-length-2 : tie.Need-same-length-2 Inv-loop μ-loop
 same-length-2 c = c .before .loop .inv .0 .p-long
 
--- src/internal.rt:223:1
 returns : tie.Need-returns Inv-loop μ-loop
 returns c =
     let a = c .before .before .before .before .before .before .before .args in

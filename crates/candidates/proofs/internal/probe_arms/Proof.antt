@@ -1,7 +1,6 @@
+-- `candidates::internal::probe_arms` meets its contract. Assumes nothing.
 use native.Mathlib.Omega.{arith}
-use Prim.Native.Nat.{ℕ, suc, _≤_, _<_, _+_, _*_, _-_}
-use mathlib.Core.Path.{_≡_, refl, sym, ap, _∙_}
-use lib.ListN.{length, getD, set, length-set}
+use Prim.Native.Nat.{_≤_, _+_}
 use Rattle.base.proofs.Floats.{held64}
 use Rattle.candidates.proofs.Tallies.{probing-more}
 use lib.Ieee.{ofBits, ofInt}
@@ -9,50 +8,39 @@ use borrow.Author.Needs.{needs}
 use Rattle.candidates.proofs.internal.probe_arms.Statement.{statement}
 use Rattle.candidates.proofs.internal.probe_arms.Tie as tie
 
--- src/internal.rt:94:15
 add-cx : tie.Need-add-cx
 add-cx c = search needs
 
--- src/internal.rt:94:14
 int-to-float-cx : tie.Need-int-to-float-cx
 int-to-float-cx c = held64 _ (omega arith)
 
--- src/internal.rt:95:15
 add-cy : tie.Need-add-cy
 add-cy c = search needs
 
--- src/internal.rt:95:14
 int-to-float-cy : tie.Need-int-to-float-cy
 int-to-float-cy c = held64 _ (omega arith)
 
--- src/internal.rt:96:20
 sub-dx : tie.Need-sub-dx
 sub-dx c = search needs
 
--- src/internal.rt:96:19
 int-to-float-dx : tie.Need-int-to-float-dx
 int-to-float-dx c = held64 _ (omega arith)
 
--- src/internal.rt:97:20
 sub-dy : tie.Need-sub-dy
 sub-dy c = search needs
 
--- src/internal.rt:97:19
 int-to-float-dy : tie.Need-int-to-float-dy
 int-to-float-dy c = held64 _ (omega arith)
 
--- src/internal.rt:98:9
 probe-requires : tie.Need-probe-requires
 probe-requires c κs = search needs
 
--- src/internal.rt:99:9
 probe-requires-2 : tie.Need-probe-requires-2
 probe-requires-2 c κs =
     let few : c .probe .result .made ≤ c .before .before .before .before .before .before .before .before .before .before .before .args .t .made + 1 = c .probe .ensures .few in
     let start : c .before .before .before .before .before .before .before .before .before .before .before .args .t .made ≤ 13 = c .before .before .before .before .before .before .before .before .before .before .before .pre .1 .1 .1 in
     (c .before .before .before .before .before .before .before .before .before .before .before .pre .0, (c .probe .ensures .sound, omega arith))
 
--- src/internal.rt:100:9
 probe-requires-3 : tie.Need-probe-requires-3
 probe-requires-3 c κs =
     let few : c .before .probe .result .made ≤ c .before .before .before .before .before .before .before .before .before .before .before .before .args .t .made + 1 = c .before .probe .ensures .few in
@@ -60,7 +48,6 @@ probe-requires-3 c κs =
     let start : c .before .before .before .before .before .before .before .before .before .before .before .before .args .t .made ≤ 13 = c .before .before .before .before .before .before .before .before .before .before .before .before .pre .1 .1 .1 in
     (c .before .before .before .before .before .before .before .before .before .before .before .before .pre .0, (c .probe2 .ensures .sound, omega arith))
 
--- src/internal.rt:101:5
 probe-requires-4 : tie.Need-probe-requires-4
 probe-requires-4 c κs =
     let few : c .before .before .probe .result .made ≤ c .before .before .before .before .before .before .before .before .before .before .before .before .before .args .t .made + 1 = c .before .before .probe .ensures .few in
@@ -69,7 +56,6 @@ probe-requires-4 c κs =
     let start : c .before .before .before .before .before .before .before .before .before .before .before .before .before .args .t .made ≤ 13 = c .before .before .before .before .before .before .before .before .before .before .before .before .before .pre .1 .1 .1 in
     (c .before .before .before .before .before .before .before .before .before .before .before .before .before .pre .0, (c .probe3 .ensures .sound, omega arith))
 
--- src/internal.rt:90:1
 returns : tie.Need-returns
 unfolding ofBits ofInt
 returns c =

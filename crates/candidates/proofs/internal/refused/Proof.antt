@@ -1,11 +1,9 @@
-use native.Mathlib.Omega.{arith}
-use Prim.Native.Nat.{ℕ, suc, _≤_, _<_, _+_, _*_, _-_}
-use mathlib.Core.Path.{_≡_, refl, sym, ap, _∙_}
-use lib.ListN.{length, getD, set, length-set}
-use mathlib.Core.Bool.{true, false}
+-- `candidates::internal::refused` meets its contract. Assumes nothing.
+use mathlib.Core.Path.{_≡_, sym, ap, _∙_}
+use mathlib.Core.Bool.{false}
 use denote.Ref.{now}
 use Rattle.frame.specs.Image.{image}
-use Rattle.frame.specs.Refusals.{frameOutside, captureWrong, captureSmall}
+use Rattle.frame.specs.Refusals.{frameOutside, captureWrong}
 use Rattle.frame.proofs.Held.{frame-held, capture-held}
 use Rattle.frame.proofs.Lowest.{lowest-first, lowest-next, lowest-none}
 use Rattle.markers.specs.Layout.{noLayout}
@@ -30,61 +28,49 @@ lengths-fail c = sym (shorter-is (c .before)) ∙ c .if3 .left
 layout-fails : (c : tie.Else4) → noLayout (c .before .before .before .before .before .before .before .before .before .before .args .frame) ≡ false
 layout-fails c = sym (c .before .no-layout .ensures) ∙ c .if4 .left
 
--- src/internal.rt:317:8
 frame-outside-requires : tie.Need-frame-outside-requires
 frame-outside-requires c κs = search needs
 
--- src/internal.rt:318:9
 returns : tie.Need-returns
 unfolding testsBy
 returns c = sym (lowest-first 1 _ _ (sym (c .before .frame-outside .ensures) ∙ c .if1 .taken))
 
--- src/internal.rt:320:8
 capture-wrong-requires : tie.Need-capture-wrong-requires
 capture-wrong-requires c κs = search needs
 
--- src/internal.rt:321:9
 returns-2 : tie.Need-returns-2
 unfolding testsBy
 returns-2 c = sym (lowest-next 1 _ _ (frame-fails (c .before .before)) ∙ lowest-first 2 _ _ (sym (c .before .capture-wrong .ensures) ∙ c .if2 .taken))
 
--- src/internal.rt:323:25
 smallest-requires : tie.Need-smallest-requires
 smallest-requires c κs = let h = capture-held _ (capture-fails c) in (h .w-most, h .h-most)
 
--- src/internal.rt:323:8
 shorter-requires : tie.Need-shorter-requires
 shorter-requires c κs = search needs
 
--- src/internal.rt:324:9
 returns-3 : tie.Need-returns-3
 unfolding testsBy
 returns-3 c =
     sym (lowest-next 1 _ _ (frame-fails (c .before .before .before .before .before)) ∙ lowest-next 2 _ _ (capture-fails (c .before .before .before)) ∙ lowest-first 3 _ _ (sym (shorter-is (c .before)) ∙ c .if3 .taken))
 
--- src/internal.rt:326:8
 no-layout-requires : tie.Need-no-layout-requires
 no-layout-requires c κs = frame-held _ (frame-fails (c .before .before .before .before .before))
 
--- src/internal.rt:327:9
 returns-4 : tie.Need-returns-4
 unfolding testsBy
 returns-4 c =
     sym (lowest-next 1 _ _ (frame-fails (c .before .before .before .before .before .before .before)) ∙ lowest-next 2 _ _ (capture-fails (c .before .before .before .before .before)) ∙ lowest-next 3 _ _ (lengths-fail (c .before .before))
     ∙ lowest-first 5 _ _ (sym (c .before .no-layout .ensures) ∙ c .if4 .taken))
 
--- src/internal.rt:329:8
 capture-small-requires : tie.Need-capture-small-requires
 capture-small-requires c κs = search needs
 
--- src/internal.rt:330:9
 returns-5 : tie.Need-returns-5
 unfolding testsBy
 returns-5 c =
     sym (lowest-next 1 _ _ (frame-fails (c .before .before .before .before .before .before .before .before .before)) ∙ lowest-next 2 _ _ (capture-fails (c .before .before .before .before .before .before .before)) ∙ lowest-next 3 _ _ (lengths-fail (c .before .before .before .before))
     ∙ lowest-next 5 _ _ (layout-fails (c .before .before)) ∙ lowest-first 6 _ _ (sym (c .before .capture-small .ensures _) ∙ c .if5 .taken))
 
--- src/internal.rt:314:1
 returns-6 : tie.Need-returns-6
 unfolding testsBy
 returns-6 c =

@@ -1,7 +1,6 @@
+-- `candidates::internal::shaped` meets its contract. Assumes nothing.
 use native.Mathlib.Omega.{arith}
-use Prim.Native.Nat.{ℕ, suc, _≤_, _<_, _+_, _*_, _-_}
-use mathlib.Core.Path.{_≡_, refl, sym, ap, _∙_}
-use lib.ListN.{length, getD, set, length-set}
+use mathlib.Core.Path.{refl}
 use Rattle.base.proofs.Floats.{held64}
 use lib.Ieee.{ofBits, ofInt}
 use Rattle.float.specs.Floats.{d64}
@@ -10,47 +9,36 @@ use borrow.Author.Needs.{needs}
 use Rattle.candidates.proofs.internal.shaped.Statement.{statement}
 use Rattle.candidates.proofs.internal.shaped.Tie as tie
 
--- src/internal.rt:158:14
 sub-bw : tie.Need-sub-bw
 sub-bw c = search needs
 
--- src/internal.rt:158:14
 add-bw : tie.Need-add-bw
 add-bw c = search needs
 
--- src/internal.rt:159:14
 sub-bh : tie.Need-sub-bh
 sub-bh c = search needs
 
--- src/internal.rt:159:14
 add-bh : tie.Need-add-bh
 add-bh c = search needs
 
--- src/internal.rt:160:17
 min-requires : tie.Need-min-requires
 min-requires c κs = search needs
 
--- src/internal.rt:161:19
 int-to-float-aspect : tie.Need-int-to-float-aspect
 int-to-float-aspect c = held64 _ (omega arith)
 
--- src/internal.rt:161:33
 int-to-float-aspect-2 : tie.Need-int-to-float-aspect-2
 int-to-float-aspect-2 c = held64 _ (omega arith)
 
--- src/internal.rt:162:17
 int-to-float-fill : tie.Need-int-to-float-fill
 int-to-float-fill c = held64 _ (omega arith)
 
--- src/internal.rt:162:36
 int-to-float-fill-2 : tie.Need-int-to-float-fill-2
 int-to-float-fill-2 c = held64 _ (omega arith)
 
--- src/internal.rt:162:50
 int-to-float-fill-3 : tie.Need-int-to-float-fill-3
 int-to-float-fill-3 c = held64 _ (omega arith)
 
--- src/internal.rt:154:1
 returns : tie.Need-returns
 unfolding shaped ofBits ofInt d64
 returns c = rw (c .before .before .before .before .before .before .min .ensures) refl

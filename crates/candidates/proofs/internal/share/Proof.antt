@@ -1,10 +1,9 @@
 -- `candidates::internal::share` meets its contract. Assumes nothing.
 use borrow.Author.Needs.{needs}
-use mathlib.Core.Path.{_≡_, refl, sym, ap, _∙_}
-use mathlib.Core.Bool.{Bool, true, false, cond, _||_}
-use Prim.Native.Nat.{ℕ}
+use mathlib.Core.Path.{_≡_, refl, _∙_}
+use mathlib.Core.Bool.{Bool, true, false, _||_}
 use lib.Dec.{ltb, eqb}
-use lib.Ieee.{Float, binary64, lt, ofBits, ofInt}
+use lib.Ieee.{binary64, lt, ofBits, ofInt}
 use Rattle.base.proofs.Pick.{pick-yes, pick-no}
 use Rattle.float.specs.Floats.{_⊘_, _⊖_, f64}
 use Rattle.candidates.specs.Ring.{shareOf}

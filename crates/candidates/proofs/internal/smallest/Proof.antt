@@ -1,42 +1,34 @@
+-- `candidates::internal::smallest` meets its contract. Assumes nothing.
 use native.Mathlib.Omega.{arith}
-use Prim.Native.Nat.{ℕ, suc, _≤_, _<_, _+_, _*_, _-_}
-use mathlib.Core.Path.{_≡_, refl, sym, ap, _∙_}
-use lib.ListN.{length, getD, set, length-set}
+use Prim.Native.Nat.{_≤_, _+_}
+use mathlib.Core.Path.{refl}
 use Rattle.base.proofs.Arith.{product-le}
 use Rattle.candidates.specs.Areas.{smallest}
 use borrow.Author.Needs.{needs}
 use Rattle.candidates.proofs.internal.smallest.Statement.{statement}
 use Rattle.candidates.proofs.internal.smallest.Tie as tie
 
--- src/internal.rt:292:13
 mul-n : tie.Need-mul-n
 mul-n c = let p = product-le (c .args .w) (c .args .h) 4096 4096 (c .pre .0) (c .pre .1) in omega arith
 
--- src/internal.rt:295:20
 add-t4 : tie.Need-add-t4
 add-t4 c = search needs
 
--- src/internal.rt:295:30
 add-t5 : tie.Need-add-t5
 add-t5 c = search needs
 
--- src/internal.rt:295:19
 mul-t6 : tie.Need-mul-t6
 mul-t6 c = let a : c .args .w ≤ 4096 = c .pre .0 in let b : c .args .h ≤ 4096 = c .pre .1 in let p = product-le (c .args .w + 1) (c .args .h + 1) 4097 4097 (omega arith) (omega arith) in omega arith
 
--- src/internal.rt:299:24
 add-t7 : tie.Need-add-t7
 add-t7 c = let p = product-le (c .args .w) (c .args .h) 4096 4096 (c .pre .0) (c .pre .1) in omega arith
 
--- src/internal.rt:299:18
 mul-t9 : tie.Need-mul-t9
 mul-t9 c = let p = product-le (c .args .w) (c .args .h) 4096 4096 (c .pre .0) (c .pre .1) in omega arith
 
--- src/internal.rt:300:21
 mul-t11 : tie.Need-mul-t11
 mul-t11 c = let p = product-le (c .args .w) (c .args .h) 4096 4096 (c .pre .0) (c .pre .1) in omega arith
 
--- src/internal.rt:288:1
 returns : tie.Need-returns
 unfolding smallest
 returns c = refl

@@ -1,49 +1,37 @@
+-- `candidates::internal::tally` meets its contract. Assumes nothing.
 use native.Mathlib.Omega.{arith}
-use Prim.Native.Nat.{ℕ, suc, _≤_, _<_, _+_, _*_, _-_}
-use mathlib.Core.Path.{_≡_, refl, sym, ap, _∙_}
-use lib.ListN.{length, getD, set, length-set}
 use borrow.Author.Needs.{needs}
 use Rattle.candidates.proofs.Tallies.{tally-dark, tally-light}
 use Rattle.candidates.proofs.internal.tally.Statement.{statement}
 use Rattle.candidates.proofs.internal.tally.Tie as tie
 
--- src/internal.rt:55:9
 agrees-requires : tie.Need-agrees-requires
 agrees-requires c κs = search needs
 
--- src/internal.rt:56:9
 widen-requires : tie.Need-widen-requires
 widen-requires c κs = search needs
 
--- src/internal.rt:59:19
 add-t8 : tie.Need-add-t8
 add-t8 c = omega arith
 
--- src/internal.rt:60:19
 add-t9 : tie.Need-add-t9
 add-t9 c = omega arith
 
--- src/internal.rt:62:20
 add-t11 : tie.Need-add-t11
 add-t11 c = omega arith
 
--- src/internal.rt:58:9
 returns : tie.Need-returns
 returns c = let a = c .before .before .before .before .before .before .before .args in tally-dark (a .entry) (a .luma) _ (a .dark) (a .t) _ (c .before .before .before .before .if1 .taken) (c .before .before .before .before .before .before .agrees .ensures .0) (c .before .before .before .before .before .widen .ensures)
 
--- src/internal.rt:68:15
 add-t12 : tie.Need-add-t12
 add-t12 c = omega arith
 
--- src/internal.rt:69:15
 add-t13 : tie.Need-add-t13
 add-t13 c = omega arith
 
--- src/internal.rt:73:17
 add-t15 : tie.Need-add-t15
 add-t15 c = omega arith
 
--- src/internal.rt:51:1
 returns-2 : tie.Need-returns-2
 returns-2 c = let a = c .before .before .before .before .before .before .before .args in tally-light (a .entry) (a .luma) _ (a .dark) (a .t) _ (c .before .before .before .before .if1 .left) (c .before .before .before .before .before .before .agrees .ensures .0) (c .before .before .before .before .before .widen .ensures)
 

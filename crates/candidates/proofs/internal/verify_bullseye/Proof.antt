@@ -1,7 +1,7 @@
+-- `candidates::internal::verify_bullseye` meets its contract. Assumes nothing.
 use native.Mathlib.Omega.{arith}
-use Prim.Native.Nat.{ℕ, suc, _≤_, _<_, _+_, _*_, _-_}
-use mathlib.Core.Path.{_≡_, refl, sym, ap, _∙_}
-use lib.ListN.{length, getD, set, length-set}
+use Prim.Native.Nat.{_≤_, _+_}
+use mathlib.Core.Path.{ap, _∙_}
 use Rattle.base.proofs.Floats.{held64}
 use Rattle.candidates.proofs.Tallies.{probing-more}
 use denote.Ref.{now}
@@ -13,40 +13,32 @@ use borrow.Author.Needs.{needs}
 use Rattle.candidates.proofs.internal.verify_bullseye.Statement.{statement}
 use Rattle.candidates.proofs.internal.verify_bullseye.Tie as tie
 
--- src/internal.rt:123:15
 add-cx : tie.Need-add-cx
 add-cx c = search needs
 
--- src/internal.rt:123:14
 int-to-float-cx : tie.Need-int-to-float-cx
 int-to-float-cx c = held64 _ (omega arith)
 
--- src/internal.rt:124:15
 add-cy : tie.Need-add-cy
 add-cy c = search needs
 
--- src/internal.rt:124:14
 int-to-float-cy : tie.Need-int-to-float-cy
 int-to-float-cy c = held64 _ (omega arith)
 
--- src/internal.rt:125:9
 probe-requires : tie.Need-probe-requires
 probe-requires c κs = search needs
 
--- src/internal.rt:126:9
 probe-arms-requires : tie.Need-probe-arms-requires
 probe-arms-requires c κs =
     let few : c .probe .result .made ≤ 1 = c .probe .ensures .few in
     (c .before .before .before .before .before .before .before .pre .0, (c .before .before .before .before .before .before .before .pre .1, (c .probe .ensures .sound, omega arith)))
 
--- src/internal.rt:127:9
 probe-arms-requires-2 : tie.Need-probe-arms-requires-2
 probe-arms-requires-2 c κs =
     let few : c .before .probe .result .made ≤ 1 = c .before .probe .ensures .few in
     let few2 : c .probe-arms .result .made ≤ c .before .probe .result .made + 4 = c .probe-arms .ensures .few in
     (c .before .before .before .before .before .before .before .before .pre .0, (c .before .before .before .before .before .before .before .before .pre .1, (c .probe-arms .ensures .sound, omega arith)))
 
--- src/internal.rt:128:9
 probe-arms-requires-3 : tie.Need-probe-arms-requires-3
 probe-arms-requires-3 c κs =
     let few : c .before .before .probe .result .made ≤ 1 = c .before .before .probe .ensures .few in
@@ -54,7 +46,6 @@ probe-arms-requires-3 c κs =
     let few3 : c .probe-arms2 .result .made ≤ c .before .probe-arms .result .made + 4 = c .probe-arms2 .ensures .few in
     (c .before .before .before .before .before .before .before .before .before .pre .0, (c .before .before .before .before .before .before .before .before .before .pre .1, (c .probe-arms2 .ensures .sound, omega arith)))
 
--- src/internal.rt:129:11
 probe-arms-requires-4 : tie.Need-probe-arms-requires-4
 probe-arms-requires-4 c κs =
     let few : c .before .before .before .probe .result .made ≤ 1 = c .before .before .before .probe .ensures .few in
@@ -63,11 +54,9 @@ probe-arms-requires-4 c κs =
     let few4 : c .probe-arms3 .result .made ≤ c .before .probe-arms2 .result .made + 4 = c .probe-arms3 .ensures .few in
     (c .before .before .before .before .before .before .before .before .before .before .pre .0, (c .before .before .before .before .before .before .before .before .before .before .pre .1, (c .probe-arms3 .ensures .sound, omega arith)))
 
--- src/internal.rt:129:5
 share-requires : tie.Need-share-requires
 share-requires c κs = search needs
 
--- src/internal.rt:118:1
 all-probes : (c : tie.After-share) → Probing (now (c .before .before .before .before .before .before .before .before .before .before .before .before .args .mask)) (now (c .before .before .before .before .before .before .before .before .before .before .before .before .args .luma)) (c .before .before .before .before .before .before .before .before .before .before .before .before .args .w) (c .before .before .before .before .before .before .before .before .before .before .before .before .args .h) (probes (c .before .before .before .before .before .before .before .before .before .before .before .before .args .b)) noneMade (c .before .probe-arms4 .result)
 unfolding probes ofBits ofInt d64
 all-probes c =

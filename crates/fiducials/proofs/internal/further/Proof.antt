@@ -1,7 +1,5 @@
-use native.Mathlib.Omega.{arith}
-use Prim.Native.Nat.{ℕ, suc, _≤_, _<_, _+_, _*_, _-_}
-use mathlib.Core.Path.{_≡_, refl, sym, ap, _∙_}
-use lib.ListN.{length, getD, set, length-set}
+-- `fiducials::internal::further` meets its contract. Assumes nothing.
+use mathlib.Core.Path.{ap, _∙_}
 use borrow.Author.Needs.{needs}
 use denote.Ref.{now}
 use Rattle.candidates.specs.Ring.{centerAt}
@@ -10,30 +8,24 @@ use Rattle.fiducials.proofs.Answering.{step-taken, step-left}
 use Rattle.fiducials.proofs.internal.further.Statement.{statement}
 use Rattle.fiducials.proofs.internal.further.Tie as tie
 
--- src/internal.rt:46:25
 center-at-requires : tie.Need-center-at-requires
 center-at-requires c κs = search needs
 
--- src/internal.rt:46:9
 key-requires : tie.Need-key-requires
 key-requires c κs = search needs
 
--- src/internal.rt:47:25
 center-at-requires-2 : tie.Need-center-at-requires-2
 center-at-requires-2 c κs = search needs
 
--- src/internal.rt:47:9
 key-requires-2 : tie.Need-key-requires-2
 key-requires-2 c κs = search needs
 
--- src/internal.rt:42:1
 returns : tie.Need-returns
 returns c =
     let a = c .before .before .before .before .before .before .args in
     step-taken (a .corner) (centerAt (now (a .candidates))) (a .i) (a .best) (c .before .before .before .key .result) (c .before .key2 .result)
     (c .before .before .before .key .ensures ∙ ap (keyOf (a .corner)) (c .before .before .before .before .center-at .ensures)) (c .before .key2 .ensures ∙ ap (keyOf (a .corner)) (c .before .before .center-at2 .ensures)) (c .if1 .taken)
 
--- src/internal.rt:42:1
 returns-2 : tie.Need-returns-2
 returns-2 c =
     let a = c .before .before .before .before .before .before .args in

@@ -1,14 +1,10 @@
-use borrow.Author.Needs.{needs}
-use native.Mathlib.Omega.{arith}
-use Prim.Native.Nat.{ℕ, suc, _≤_, _<_, _+_, _*_, _-_}
-use mathlib.Core.Path.{_≡_, refl, sym, ap, _∙_}
-use lib.ListN.{length, getD, set, length-set}
+-- `fiducials::internal::no_quad` meets its contract. Assumes nothing.
+use mathlib.Core.Path.{refl}
 use lib.Ieee.{ofBits, ofInt}
 use Rattle.fiducials.specs.Answers.{noQuad}
 use Rattle.fiducials.proofs.internal.no_quad.Statement.{statement}
 use Rattle.fiducials.proofs.internal.no_quad.Tie as tie
 
--- src/internal.rt:156:1
 returns : tie.Need-returns
 unfolding noQuad ofBits ofInt
 returns c = refl

@@ -1,7 +1,4 @@
-use native.Mathlib.Omega.{arith}
-use Prim.Native.Nat.{ℕ, suc, _≤_, _<_, _+_, _*_, _-_}
-use mathlib.Core.Path.{_≡_, refl, sym, ap, _∙_}
-use lib.ListN.{length, getD, set, length-set}
+-- `fiducials::internal::one_way` meets its contract. Assumes nothing.
 use borrow.Author.Needs.{needs}
 use mathlib.Core.Bool.{_&&_}
 use lib.Ieee.{eq}
@@ -9,23 +6,18 @@ use Rattle.fiducials.specs.Corners.{oneWay}
 use Rattle.fiducials.proofs.internal.one_way.Statement.{statement}
 use Rattle.fiducials.proofs.internal.one_way.Tie as tie
 
--- src/internal.rt:87:9
 turn-requires : tie.Need-turn-requires
 turn-requires c κs = search needs
 
--- src/internal.rt:88:17
 turn-requires-2 : tie.Need-turn-requires-2
 turn-requires-2 c κs = search needs
 
--- src/internal.rt:88:43
 turn-requires-3 : tie.Need-turn-requires-3
 turn-requires-3 c κs = search needs
 
--- src/internal.rt:88:69
 turn-requires-4 : tie.Need-turn-requires-4
 turn-requires-4 c κs = search needs
 
--- src/internal.rt:80:1
 returns : tie.Need-returns
 unfolding oneWay
 returns c =

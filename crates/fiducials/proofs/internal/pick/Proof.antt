@@ -1,8 +1,9 @@
+-- `fiducials::internal::pick` meets its contract. Assumes nothing.
 use borrow.Author.Needs.{needs}
 use native.Mathlib.Omega.{arith}
-use Prim.Native.Nat.{ℕ, suc, _≤_, _<_, _+_, _*_, _-_}
-use mathlib.Core.Path.{_≡_, refl, sym, ap, _∙_}
-use lib.ListN.{length, getD, set, length-set}
+use Prim.Native.Nat.{_≤_, _*_, _-_}
+use mathlib.Core.Path.{_≡_, _∙_}
+use lib.ListN.{length}
 use denote.Ref.{now}
 use Rattle.base.specs.Loops.{turns}
 use Rattle.base.proofs.Turns.{turns-begin, turns-step, turns-end}
@@ -18,11 +19,9 @@ Inv-loop candidates k corner best₀ i₀ best i = (best ≡ turns i (pickStep (
 abbrev μ-loop : tie.MeasureT-loop
 μ-loop candidates k corner best₀ i₀ best i = k - i
 
--- src/internal.rt:58:5
 loop-holds : tie.Need-loop-holds Inv-loop μ-loop
 loop-holds c = (turns-begin _ _, omega arith)
 
--- src/internal.rt:59:9
 further-requires : tie.Need-further-requires Inv-loop μ-loop
 further-requires c κs =
     let a = c .before .before .before .args in
@@ -31,19 +30,15 @@ further-requires c κs =
     let u : c .before .loop .best ≤ c .before .loop .i = upto _ _ _ _ (c .before .loop .inv .0) in
     (omega arith, omega arith)
 
--- src/internal.rt:60:9
 add-i : tie.Need-add-i Inv-loop μ-loop
 add-i c = search needs
 
--- src/internal.rt:58:5
 loop-less : tie.Need-loop-less Inv-loop μ-loop
 loop-less c = search needs
 
--- src/internal.rt:58:5
 loop-again : tie.Need-loop-again Inv-loop μ-loop
 loop-again c = (c .further .ensures ∙ turns-step _ _ _ (c .before .before .loop .inv .0), omega arith)
 
--- src/internal.rt:52:1
 returns : tie.Need-returns Inv-loop μ-loop
 unfolding pick
 returns c = let e : c .before .loop .i ≡ c .before .before .before .args .k = let u = c .before .loop .inv .1 in let v = c .loop-test .left in omega arith in turns-end _ _ _ _ (c .before .loop .inv .0) e

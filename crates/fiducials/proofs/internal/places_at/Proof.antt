@@ -1,29 +1,21 @@
-use native.Mathlib.Omega.{arith}
-use Prim.Native.Nat.{ℕ, suc, _≤_, _<_, _+_, _*_, _-_}
-use mathlib.Core.Path.{_≡_, refl, sym, ap, _∙_}
-use lib.ListN.{length, getD, set, length-set}
+-- `fiducials::internal::places_at` meets its contract. Assumes nothing.
 use borrow.Author.Needs.{needs}
 use Rattle.fiducials.specs.Answers.{placesAt}
 use Rattle.fiducials.proofs.internal.places_at.Statement.{statement}
 use Rattle.fiducials.proofs.internal.places_at.Tie as tie
 
--- src/internal.rt:149:13
 place-requires : tie.Need-place-requires
 place-requires c κs = search needs
 
--- src/internal.rt:150:13
 place-requires-2 : tie.Need-place-requires-2
 place-requires-2 c κs = search needs
 
--- src/internal.rt:151:13
 place-requires-3 : tie.Need-place-requires-3
 place-requires-3 c κs = search needs
 
--- src/internal.rt:152:13
 place-requires-4 : tie.Need-place-requires-4
 place-requires-4 c κs = search needs
 
--- src/internal.rt:144:1
 returns : tie.Need-returns
 unfolding placesAt
 returns c =

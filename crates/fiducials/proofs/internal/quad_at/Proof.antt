@@ -1,29 +1,21 @@
-use native.Mathlib.Omega.{arith}
-use Prim.Native.Nat.{ℕ, suc, _≤_, _<_, _+_, _*_, _-_}
-use mathlib.Core.Path.{_≡_, refl, sym, ap, _∙_}
-use lib.ListN.{length, getD, set, length-set}
+-- `fiducials::internal::quad_at` meets its contract. Assumes nothing.
 use borrow.Author.Needs.{needs}
 use Rattle.fiducials.specs.Answers.{quadAt}
 use Rattle.fiducials.proofs.internal.quad_at.Statement.{statement}
 use Rattle.fiducials.proofs.internal.quad_at.Tie as tie
 
--- src/internal.rt:125:9
 center-at-requires : tie.Need-center-at-requires
 center-at-requires c κs = search needs
 
--- src/internal.rt:126:9
 center-at-requires-2 : tie.Need-center-at-requires-2
 center-at-requires-2 c κs = search needs
 
--- src/internal.rt:127:9
 center-at-requires-3 : tie.Need-center-at-requires-3
 center-at-requires-3 c κs = search needs
 
--- src/internal.rt:128:9
 center-at-requires-4 : tie.Need-center-at-requires-4
 center-at-requires-4 c κs = search needs
 
--- src/internal.rt:121:1
 returns : tie.Need-returns
 unfolding quadAt
 returns c =

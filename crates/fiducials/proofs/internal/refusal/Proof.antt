@@ -1,20 +1,14 @@
-use native.Mathlib.Omega.{arith}
-use Prim.Native.Nat.{ℕ, suc, _≤_, _<_, _+_, _*_, _-_}
-use mathlib.Core.Path.{_≡_, refl, sym, ap, _∙_}
-use lib.ListN.{length, getD, set, length-set}
+-- `fiducials::internal::refusal` meets its contract. Assumes nothing.
 use borrow.Author.Needs.{needs}
 use Rattle.fiducials.proofs.internal.refusal.Statement.{statement}
 use Rattle.fiducials.proofs.internal.refusal.Tie as tie
 
--- src/internal.rt:182:9
 no-quad-requires : tie.Need-no-quad-requires
 no-quad-requires c κs = search needs
 
--- src/internal.rt:183:9
 no-places-requires : tie.Need-no-places-requires
 no-places-requires c κs = search needs
 
--- src/internal.rt:179:1
 returns : tie.Need-returns
 returns c =
     let e0 = c .before .no-quad .ensures in

@@ -1,7 +1,7 @@
+-- `fiducials::internal::too_small` meets its contract. Assumes nothing.
 use native.Mathlib.Omega.{arith}
-use Prim.Native.Nat.{ℕ, suc, _≤_, _<_, _+_, _*_, _-_}
-use mathlib.Core.Path.{_≡_, refl, sym, ap, _∙_}
-use lib.ListN.{length, getD, set, length-set}
+use Prim.Native.Nat.{_*_}
+use mathlib.Core.Path.{ap}
 use borrow.Author.Needs.{needs}
 use lib.Ieee.{ofBits, ofInt, lt}
 use Rattle.base.proofs.Arith.{product-le}
@@ -11,19 +11,15 @@ use Rattle.fiducials.specs.Corners.{tooSmall}
 use Rattle.fiducials.proofs.internal.too_small.Statement.{statement}
 use Rattle.fiducials.proofs.internal.too_small.Tie as tie
 
--- src/internal.rt:109:5
 area-requires : tie.Need-area-requires
 area-requires c κs = search needs
 
--- src/internal.rt:109:23
 mul-result : tie.Need-mul-result
 mul-result c = let p = product-le (c .before .args .w) (c .before .args .h) 4096 4096 (c .before .pre .0) (c .before .pre .1) in omega arith
 
--- src/internal.rt:109:22
 int-to-float-result : tie.Need-int-to-float-result
 int-to-float-result c = let p = product-le (c .before .before .args .w) (c .before .before .args .h) 4096 4096 (c .before .before .pre .0) (c .before .before .pre .1) in held64 _ (omega arith)
 
--- src/internal.rt:105:1
 returns : tie.Need-returns
 unfolding tooSmall ofBits ofInt d64
 returns c = ap (λ z. lt z (d64 4 100 ⊗ f64 (c .before .before .args .w * c .before .before .args .h))) (c .before .area .ensures)

@@ -1,56 +1,33 @@
--- `Homography::apply` meets its contract: by computation, once the divisor is known. Assumes nothing.
+-- `Homography::apply` meets its contract, from its callees'. Assumes nothing.
+use lib.Dec.{lit<}
 use borrow.Author.Needs.{needs}
 use Rattle.homography.proofs.Ends.{applied}
-use Rattle.homography.specs.Homography.{rowTimes}
 use Rattle.homography.proofs.Homography.apply.Statement.{statement}
 use Rattle.homography.proofs.Homography.apply.Tie as tie
 
-array-read-divisor : tie.Need-array-read-divisor
-array-read-divisor c = search needs
-
-array-read-divisor-2 : tie.Need-array-read-divisor-2
-array-read-divisor-2 c = search needs
-
-array-read-divisor-3 : tie.Need-array-read-divisor-3
-array-read-divisor-3 c = search needs
+row-times-requires : tie.Need-row-times-requires
+row-times-requires c κs = lit< tt
 
 divisor-requires : tie.Need-divisor-requires
 divisor-requires c κs = search needs
 
-array-read-t7 : tie.Need-array-read-t7
-array-read-t7 c = search needs
+row-times-requires-2 : tie.Need-row-times-requires-2
+row-times-requires-2 c κs = lit< tt
 
-array-read-t16 : tie.Need-array-read-t16
-array-read-t16 c = search needs
-
-array-read-t11 : tie.Need-array-read-t11
-array-read-t11 c = search needs
-
-array-read-t27 : tie.Need-array-read-t27
-array-read-t27 c = search needs
-
-array-read-t31 : tie.Need-array-read-t31
-array-read-t31 c = search needs
-
-array-read-t36 : tie.Need-array-read-t36
-array-read-t36 c = search needs
+row-times-requires-3 : tie.Need-row-times-requires-3
+row-times-requires-3 c κs = lit< tt
 
 returns : tie.Need-returns
-unfolding rowTimes
-returns c = applied _ _ _ (c .before .before .before .before .divisor .ensures)
+returns c =
+    applied _ _ _ _ _ _ (c .before .row-times2 .ensures) (c .row-times3 .ensures)
+    (c .before .before .before .row-times .ensures) (c .before .before .divisor .ensures)
 
 pub apply-spec : {M : Type 1} → statement M
 apply-spec =
     tie.close
     (tie.spec
-    array-read-divisor
-    array-read-divisor-2
-    array-read-divisor-3
+    row-times-requires
     divisor-requires
-    array-read-t7
-    array-read-t16
-    array-read-t11
-    array-read-t27
-    array-read-t31
-    array-read-t36
+    row-times-requires-2
+    row-times-requires-3
     returns)

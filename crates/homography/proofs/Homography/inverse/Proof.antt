@@ -1,5 +1,6 @@
 -- `Homography::inverse` meets its contract, by the test of the determinant. Assumes nothing.
 use mathlib.Core.Path.{sym, ap, _∙_}
+use lib.Dec.{lit<}
 use lib.Ieee.{lt, ofBits, round}
 use borrow.Author.Needs.{needs}
 use Rattle.float.specs.Floats.{tiny, d64}
@@ -12,23 +13,8 @@ use Rattle.homography.proofs.Homography.inverse.Tie as tie
 cofactors-requires : tie.Need-cofactors-requires
 cofactors-requires c κs = search needs
 
-array-read-det : tie.Need-array-read-det
-array-read-det c = search needs
-
-array-read-det-2 : tie.Need-array-read-det-2
-array-read-det-2 c = search needs
-
-array-read-det-3 : tie.Need-array-read-det-3
-array-read-det-3 c = search needs
-
-array-read-det-4 : tie.Need-array-read-det-4
-array-read-det-4 c = search needs
-
-array-read-det-5 : tie.Need-array-read-det-5
-array-read-det-5 c = search needs
-
-array-read-det-6 : tie.Need-array-read-det-6
-array-read-det-6 c = search needs
+product-at-requires : tie.Need-product-at-requires
+product-at-requires c κs = (lit< tt, lit< tt)
 
 abs-requires : tie.Need-abs-requires
 abs-requires c κs = search needs
@@ -39,10 +25,10 @@ identity-requires c κs = search needs
 returns : tie.Need-returns
 unfolding ofBits d64 round
 returns c =
-    let e = c .before .before .before .cofactors .ensures in
+    let at = c .before .before .before in
     let t = ap (λ a. lt a tiny) (sym (c .before .before .abs .ensures)) ∙ c .before .if1 .taken in
     ap (λ (m : Homography). record { verdict = Refused 11; h = m }) (c .identity .ensures)
-    ∙ inverse-refused (c .before .before .before .before .before .args .self) _ e t
+    ∙ inverse-refused (at .before .before .before .before .before .args .self) _ _ (at .before .before .before .cofactors .ensures) (at .product-at .ensures) t
 
 quotients-requires : tie.Need-quotients-requires
 quotients-requires c κs = search needs
@@ -53,21 +39,16 @@ from-mat-requires c κs = search needs
 returns-2 : tie.Need-returns-2
 unfolding ofBits d64 round
 returns-2 c =
-    let e = c .before .before .before .before .cofactors .ensures in
+    let at = c .before .before .before .before in
     let t = ap (λ a. lt a tiny) (sym (c .before .before .before .abs .ensures)) ∙ c .before .before .if1 .left in
-    inverse-found (c .before .before .before .before .before .before .args .self) _ e _ t (c .from-mat .ensures ∙ c .before .quotients .ensures)
+    inverse-found (at .before .before .before .before .before .args .self) _ _ (at .before .before .before .cofactors .ensures) (at .product-at .ensures) _ t (c .from-mat .ensures ∙ c .before .quotients .ensures)
 
 pub inverse-spec : {M : Type 1} → statement M
 inverse-spec =
     tie.close
     (tie.spec
     cofactors-requires
-    array-read-det
-    array-read-det-2
-    array-read-det-3
-    array-read-det-4
-    array-read-det-5
-    array-read-det-6
+    product-at-requires
     abs-requires
     identity-requires
     returns

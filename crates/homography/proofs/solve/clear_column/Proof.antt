@@ -1,11 +1,12 @@
 -- `clear_column` meets its contract. The loop's invariant: the rows up to r are reduced. Assumes nothing.
-use mathlib.Core.Path.{_≡_, ap, _∙_}
+use mathlib.Core.Path.{_≡_, _∙_}
 use Prim.Native.Nat.{_≤_, _-_}
 use native.Mathlib.Omega.{arith}
 use borrow.Author.Needs.{needs}
 use Rattle.base.proofs.Turns.{turns-begin, turns-step, turns-end}
 use Rattle.base.specs.Loops.{turns}
-use Rattle.homography.specs.Equations.{cleared, clearAt}
+use Rattle.homography.specs.Equations.{clearAt}
+use Rattle.homography.proofs.Steps.{column-cleared}
 use Rattle.homography.proofs.solve.clear_column.Statement.{statement}
 use Rattle.homography.proofs.solve.clear_column.Tie as tie
 
@@ -49,8 +50,10 @@ loop-again : tie.Need-loop-again Inv-loop μ-loop
 loop-again c = (c .reduce-row .ensures ∙ turns-step _ _ _ (c .before .before .before .loop .inv .0), omega arith)
 
 returns : tie.Need-returns Inv-loop μ-loop
-unfolding cleared
-returns c = turns-end _ _ _ _ (c .before .loop .inv .0) (omega arith) ∙ ap (turns 8 (clearAt _)) (cc)
+returns c =
+    let s = c .before .before .before .before .before in
+    turns-end _ _ _ _ (c .before .loop .inv .0) (omega arith)
+    ∙ column-cleared _ _ _ _ _ (s .before .before .pre .1) (s .swap-rows .ensures) (c .before .before .divide-row .ensures)
 
 pub clear-column-spec : {M : Type 1} → statement M
 clear-column-spec =

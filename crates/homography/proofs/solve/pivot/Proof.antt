@@ -1,13 +1,15 @@
 -- `pivot` meets its contract. The loop's invariant: piv is the pivot among the rows from col up to r. Assumes nothing.
 use mathlib.Core.Logic.{⊎-elim}
-use mathlib.Core.Path.{_≡_, _∙_}
+use mathlib.Core.Path.{_≡_, sym, ap, _∙_}
 use Prim.Native.Nat.{_≤_, _<_, _+_, _-_}
 use native.Mathlib.Omega.{arith}
+use lib.Ieee.{lt}
 use borrow.Author.Needs.{needs}
 use Rattle.base.proofs.Turns.{between-begin, between-step, between-end}
 use Rattle.base.specs.Loops.{between}
+use Rattle.float.specs.Floats.{absOf}
 use Rattle.homography.proofs.Steps.{better-yes, better-no}
-use Rattle.homography.specs.Equations.{pivotOf, better}
+use Rattle.homography.specs.Equations.{entry, pivotOf, better}
 use Rattle.homography.proofs.solve.pivot.Statement.{statement}
 use Rattle.homography.proofs.solve.pivot.Tie as tie
 
@@ -64,10 +66,17 @@ loop-again c =
     let at = c .before .before .before .before .before .before in
     let a = at .before .args .a .now in
     let col = at .before .args .col in
+    let x = c .before .before .before .abs in
+    let y = c .before .abs2 in
+    let test : lt (absOf (entry a (at .loop .piv) col)) (absOf (entry a (at .loop .r) col)) ≡ lt (y .result) (x .result) =
+    ap (λ z. lt z (absOf (entry a (at .loop .r) col))) (sym (y .ensures)) ∙ ap (lt (y .result)) (sym (x .ensures))
+    in
     let step = between-step _ _ _ (at .loop .r) (at .loop .inv .1) (at .loop .inv .0) in
+    let low : col + 1 ≤ at .loop .r + 1 = omega arith in
+    let high : at .loop .r + 1 ≤ 8 = omega arith in
     ⊎-elim
-    (λ w. (w .1 ∙ better-yes a col (at .loop .r) (at .loop .piv) (cc (w .0 .taken)) ∙ step, omega arith, omega arith, omega arith))
-    (λ w. (w .1 ∙ better-no a col (at .loop .r) (at .loop .piv) (cc (w .0 .left)) ∙ step, omega arith, omega arith, omega arith))
+    (λ w. (w .1 ∙ better-yes a col (at .loop .r) (at .loop .piv) (test ∙ w .0 .taken) ∙ step, low, high, omega arith))
+    (λ w. (w .1 ∙ better-no a col (at .loop .r) (at .loop .piv) (test ∙ w .0 .left) ∙ step, low, high, omega arith))
     (c .if1 .came)
 
 returns : tie.Need-returns Inv-loop μ-loop

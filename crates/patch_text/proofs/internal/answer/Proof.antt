@@ -13,8 +13,8 @@ use Rattle.patch_text.specs.Text.{Reads, Answered}
 use Rattle.patch_text.specs.Text.Answered.{accepted, refused}
 use Rattle.patch_text.specs.Steps.{pixelAt}
 use Rattle.patch_text.proofs.Texts.{reads-length, reads-area, reads-sides, take-filled}
-use Rattle.patch_text.proofs.answer.Statement.{statement}
-use Rattle.patch_text.proofs.answer.Tie as tie
+use Rattle.patch_text.proofs.internal.answer.Statement.{statement}
+use Rattle.patch_text.proofs.internal.answer.Tie as tie
 
 -- the text is a mask of w by h
 reads : (c : tie.Else1) → Reads (now (c .before .before .before .before .before .before .before .before .args .text)) (c .before .mask-size .result .w) (c .before .mask-size .result .h) (table (pixelAt (now (c .before .before .before .before .before .before .before .before .args .text)) (c .before .mask-size .result .w)) (c .before .mask-size .result .w * c .before .mask-size .result .h))
