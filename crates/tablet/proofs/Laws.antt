@@ -1,0 +1,119 @@
+-- Laws of results in slices. Assumes nothing.
+use mathlib.Core.Path.{_≡_, refl, sym, ap, subst, _∙_}
+use mathlib.Core.Bool.{Bool, true, false, cond, _&&_}
+use mathlib.Core.List.{List, [], _∷_, _++_}
+use Prim.Native.Nat.{ℕ, zero, suc, _≤_, _<_}
+use native.Mathlib.Omega.{arith}
+use lib.Dec.{T, leb}
+use borrow.Author.Tests.{leb-true}
+use lib.Ieee.{Float, nan}
+use lib.ListN.{length, getD, take, drop, length-append, length-drop}
+use lib.Seq.{length-take-le, getD-take}
+use Rattle.base.specs.Loops.{filled}
+use Rattle.base.proofs.Table.{table-is, filled-whole, filled-front}
+use Rattle.frame.specs.Refusals.{Check, check, lowestOf}
+use Rattle.frame.proofs.Lowest.{Rising}
+use Rattle.frame.proofs.Tests.{and-left}
+use Rattle.tablet.specs.Slices.{written, answered, Answer, Over, told}
+
+module _ {A : Type 0} (v l : List A) (d : A) (h : length v ≤ length l) where
+  -- a loop that stores one value after the other
+  pub written-filled : filled (λ k. getD v k d) (length v) l ≡ written v l
+  unfolding written
+  written-filled =
+      filled-front (λ k. getD v k d) (length v) d l h
+      ∙ ap (λ b. b ++ drop (length v) l) (sym (table-is (λ k. getD v k d) (length v) d v refl (λ k _. refl)))
+
+pub length-written : {A : Type 0} (v l : List A) → length v ≤ length l → length (written v l) ≡ length l
+unfolding written
+length-written v l h = simp (length-append, length-drop) (omega arith)
+
+-- .. and one that reads the first n
+pub filled-take : (l m : List Float) (n : ℕ) → n ≤ length l → length m ≡ n → filled (λ k. getD l k nan) n m ≡ take n l
+filled-take l m n h e =
+    filled-whole (λ k. getD l k nan) n m e
+    ∙ sym (table-is (λ k. getD l k nan) n nan (take n l) (length-take-le n l h) (λ k b. getD-take n l k nan b))
+
+-- ---- a call's answer, from the number of its tests
+
+module _ {A : Type 0} (tests : List Check) (v l : List A) where
+  pub refused : (n : ℕ) → lowestOf tests ≡ suc n → Answer tests v l (suc n) l
+  unfolding answered
+  refused n e = record { number = sym e; result = refl }
+
+  pub accepted : {b : List A} → lowestOf tests ≡ 0 → b ≡ written v l → Answer tests v l 0 b
+  unfolding answered
+  accepted e w = record { number = sym e; result = w }
+
+-- a refused call's slice
+pub answered-refused : {A : Type 0} {n : ℕ} (v l : List A) → (n ≡ 0 → ⊥) → l ≡ answered n v l
+unfolding answered
+answered-refused {n = zero} v l h = absurd (h refl)
+answered-refused {n = suc n} v l h = refl
+
+-- ---- the tests p of a door, with others q behind them
+
+module _ (q : List Check) where
+  before-step : (b : Bool) (m k n : ℕ) (p : List Check) → (n ≡ k → n ≡ lowestOf (p ++ q)) → n ≡ cond b m k → n ≡ cond b m (lowestOf (p ++ q))
+  before-step true m k n p f d = d
+  before-step false m k n p f d = f d
+
+  pub lowest-before : (p : List Check) (n : ℕ) → n ≡ lowestOf p → (n ≡ 0 → ⊥) → n ≡ lowestOf (p ++ q)
+  unfolding lowestOf
+  lowest-before [] n e h = absurd (h e)
+  lowest-before (c ∷ p) n e h = before-step (c .holds) (c .number) (lowestOf p) n p (λ d. lowest-before p n d h) e
+
+  past-step : (b : Bool) (m k j : ℕ) → 0 < m → (k ≡ 0 → j ≡ lowestOf q) → cond b m k ≡ 0 → cond b m j ≡ lowestOf q
+  past-step true m k j h f d = absurd (omega arith)
+  past-step false m k j h f d = f d
+
+  pub lowest-past : (lo : ℕ) (p : List Check) → Rising lo p → lowestOf p ≡ 0 → lowestOf (p ++ q) ≡ lowestOf q
+  unfolding lowestOf
+  lowest-past lo [] r e = refl
+  lowest-past lo (c ∷ p) r e =
+      let x : lo < c .number = r .0 in
+      past-step (c .holds) (c .number) (lowestOf p) (lowestOf (p ++ q)) (omega arith) (lowest-past (c .number) p (r .1)) e
+
+-- a call that its door refuses
+pub refused-before : {A : Type 0} (p q : List Check) (v l : List A) (n : ℕ) → n ≡ lowestOf p → (n ≡ 0 → ⊥) → Answer (p ++ q) v l n l
+refused-before p q v l n e h = record { number = lowest-before q p n e h; result = answered-refused v l h }
+
+-- ---- one more test among others: where it fails it changes nothing, where it holds no later one counts
+
+module _ (n : ℕ) (s : Bool) (q : List Check) where
+  pub lowest-without : (p : List Check) → s ≡ false → lowestOf (p ++ (check n s ∷ q)) ≡ lowestOf (p ++ q)
+  unfolding lowestOf
+  lowest-without [] e = rw e
+  lowest-without (c ∷ p) e = ap (cond (c .holds) (c .number)) (lowest-without p e)
+
+  pub lowest-until : (p : List Check) → s ≡ true → lowestOf (p ++ (check n s ∷ q)) ≡ lowestOf (p ++ (check n true ∷ []))
+  unfolding lowestOf
+  lowest-until [] e = rw e
+  lowest-until (c ∷ p) e = ap (cond (c .holds) (c .number)) (lowest-until p e)
+
+-- a call with the number n of its tests
+pub numbered : {A : Type 0} (tests : List Check) (v l : List A) (n : ℕ) → n ≡ lowestOf tests → (n ≡ 0 → ⊥) → Answer tests v l n l
+numbered tests v l n e h = record { number = e; result = answered-refused v l h }
+
+-- ---- over a door with work areas
+
+module _ {s : Bool} {before : List Check} {r : ℕ} {Same Done : Type 0} where
+  pub over-short : s ≡ true → r ≡ lowestOf before → Same → Over s before r Same Done
+  over-short e n u = record { number = λ _. n; same = λ _. u; done = λ d. absurd (subst T (sym e ∙ d) tt) }
+
+  pub over-done : s ≡ false → Done → Over s before r Same Done
+  over-done e u = record { number = λ d. absurd (subst T (sym d ∙ e) tt); same = λ d. absurd (subst T (sym d ∙ e) tt); done = λ _. u }
+
+-- counts after a call with the number n: not told by 1 to 6, else told
+module _ {A : Type 0} (n : ℕ) (v l : List A) where
+  pub told-not : leb 1 n && leb n 6 ≡ true → l ≡ told n v l
+  unfolding told
+  told-not e = rw e
+
+  pub told-all : leb 1 n && leb n 6 ≡ false → written v l ≡ told n v l
+  unfolding told
+  told-all e = rw e
+
+-- .. of which 0 is none
+pub untouched-positive : (n : ℕ) → leb 1 n && leb n 6 ≡ true → n ≡ 0 → ⊥
+untouched-positive n e z = let h : 1 ≤ n = leb-true 1 n (and-left _ _ e) in omega arith

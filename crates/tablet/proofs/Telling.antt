@@ -1,0 +1,25 @@
+-- An answer in the slices for counts and fit. Assumes nothing.
+use Prim.Native.Nat.{ℕ}
+use mathlib.Core.Path.{_≡_, sym, ap, _∙_}
+use mathlib.Core.Bool.{true, false, _&&_}
+use mathlib.Core.List.{List}
+use lib.Dec.{leb}
+use lib.Ieee.{Float}
+use Rattle.frame.specs.Refusals.{numberOf}
+use Rattle.fit_geometry.specs.declared.PictureFit.{PictureFit}
+use Rattle.tablet.specs.Slices.{written, answered}
+use Rattle.tablet.specs.Whole.{foundNumbers, scoredFit, Told}
+use Rattle.tablet.proofs.Laws.{answered-refused, told-not, told-all, untouched-positive}
+
+module _ (a : PictureFit) (counts : List ℕ) (fit : List Float) (n : ℕ) (e : n ≡ numberOf (a .verdict)) where
+  pub told-tested : (leb 1 n && leb n 6) ≡ true → Told a counts counts fit fit n
+  told-tested t = record { number = e; counts-are = told-not n (foundNumbers a) counts t; fit-is = answered-refused (scoredFit a) fit (untouched-positive n t) }
+
+  module _ (counts′ : List ℕ) (w : counts′ ≡ written (foundNumbers a) counts) where
+    pub told-refused : (leb 1 n && leb n 6) ≡ false → (n ≡ 0 → ⊥) → Told a counts counts′ fit fit n
+    told-refused t h = record { number = e; counts-are = w ∙ told-all n (foundNumbers a) counts t; fit-is = answered-refused (scoredFit a) fit h }
+
+    pub told-accepted : (fit′ : List Float) → n ≡ 0 → fit′ ≡ written (scoredFit a) fit → Told a counts counts′ fit fit′ n
+    unfolding answered
+    told-accepted fit′ z v =
+        record { number = e; counts-are = w ∙ told-all n (foundNumbers a) counts (ap (λ k. leb 1 k && leb k 6) z); fit-is = v ∙ sym (ap (λ k. answered k (scoredFit a) fit) z) }

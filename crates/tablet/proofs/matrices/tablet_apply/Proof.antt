@@ -1,0 +1,44 @@
+-- `tablet::matrices::tablet_apply` meets its contract. Assumes nothing.
+use Rattle.tablet.proofs.Laws.{refused, accepted}
+use Rattle.tablet.specs.Tests.{moveTests}
+use Rattle.frame.proofs.Lowest.{lowest-first, lowest-next, lowest-none}
+use Prim.Native.Nat.{_-_}
+use mathlib.Core.Path.{_∙_}
+use borrow.Author.Needs.{needs}
+use Rattle.tablet.proofs.matrices.tablet_apply.Statement.{statement}
+use Rattle.tablet.proofs.matrices.tablet_apply.Tie as tie
+
+short-requires : tie.Need-short-requires
+short-requires c κs = search needs
+
+returns : tie.Need-returns
+unfolding moveTests
+returns c = refused _ _ _ 2 (lowest-first 3 _ _ (cc))
+
+matrix-requires : tie.Need-matrix-requires
+matrix-requires c κs = (c .before .short .ensures .1 (c .if1 .left)) .0
+
+apply-requires : tie.Need-apply-requires
+apply-requires c κs = search needs
+
+store-point-requires : tie.Need-store-point-requires
+store-point-requires c κs = (c .before .before .before .before .short .ensures .1 (c .before .before .before .if1 .left)) .1
+
+same-length : tie.Need-same-length
+same-length c = search needs
+
+returns-2 : tie.Need-returns-2
+unfolding moveTests
+returns-2 c = accepted _ _ _ (lowest-next 3 _ _ (cc) ∙ lowest-none) (cc)
+
+pub tablet-apply-spec : {M : Type 1} → statement M
+tablet-apply-spec =
+    tie.close
+    (tie.spec
+    short-requires
+    returns
+    matrix-requires
+    apply-requires
+    store-point-requires
+    same-length
+    returns-2)

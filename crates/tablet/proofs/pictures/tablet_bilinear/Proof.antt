@@ -1,0 +1,71 @@
+-- `tablet::pictures::tablet_bilinear` meets its contract. Assumes nothing.
+use Rattle.tablet.proofs.Laws.{refused, accepted, refused-before, lowest-past}
+use Rattle.tablet.specs.Tests.{colourTests}
+use Rattle.tablet.specs.Layouts.{colourNumbers}
+use Rattle.tablet.specs.Slices.{written}
+use Rattle.sampling.proofs.Given.{colour-number, colour-value}
+use Rattle.sampling.specs.Answers.{colourRefusal, colourValue, colourFor}
+use Rattle.frame.proofs.Lowest.{lowest-first, lowest-next, lowest-none, capture-rising}
+use Rattle.frame.specs.declared.Rgb.{Rgb}
+use Rattle.frame.specs.Refusals.{lowestOf, captureTests}
+use Rattle.frame.specs.Image.{image}
+use borrow.Author.Tests.{lt-ltb, le-ltb}
+use Prim.Native.Nat.{_-_}
+use mathlib.Core.Path.{_≡_, sym, ap, _∙_}
+use borrow.Author.Needs.{needs}
+use Rattle.tablet.proofs.pictures.tablet_bilinear.Statement.{statement}
+use Rattle.tablet.proofs.pictures.tablet_bilinear.Tie as tie
+
+bilinear-requires : tie.Need-bilinear-requires
+bilinear-requires c κs = search needs
+
+colour-number-requires : tie.Need-colour-number-requires
+colour-number-requires c κs = search needs
+
+returns : tie.Need-returns
+unfolding colourTests colourFor
+returns c = refused-before _ _ _ _ _ (c .before .colour-number .ensures ∙ ap colourRefusal (c .before .before .bilinear .ensures) ∙ colour-number _ _) (c .if1 .taken)
+
+returns-2 : tie.Need-returns-2
+unfolding colourTests colourFor
+returns-2 c =
+    let a = c .before .before .before .before .before .before .args in
+    let img = image (a .w) (a .h) (a .capture .now) in
+    let z : lowestOf (captureTests img) ≡ 0 = sym (c .before .before .colour-number .ensures ∙ ap colourRefusal (c .before .before .before .bilinear .ensures) ∙ colour-number _ _) ∙ c .before .if1 .left in
+    refused _ _ _ 2 (lowest-past _ 0 _ (capture-rising img) z ∙ lowest-first 3 _ _ (lt-ltb _ _ (c .if2 .taken)))
+
+colour-value-requires : tie.Need-colour-value-requires
+colour-value-requires c κs = search needs
+
+slice-aggregate-store-bytes : tie.Need-slice-aggregate-store-bytes
+slice-aggregate-store-bytes c = search needs
+
+store-bytes-requires : tie.Need-store-bytes-requires
+store-bytes-requires c κs = search needs
+
+same-length : tie.Need-same-length
+same-length c = search needs
+
+returns-3 : tie.Need-returns-3
+unfolding colourTests colourFor colourNumbers
+returns-3 c =
+    let a = c .before .before .before .before .before .before .before .before .before .before .before .before .args in
+    let img = image (a .w) (a .h) (a .capture .now) in
+    let z : lowestOf (captureTests img) ≡ 0 = sym (c .before .before .before .before .before .before .before .before .colour-number .ensures ∙ ap colourRefusal (c .before .before .before .before .before .before .before .before .before .bilinear .ensures) ∙ colour-number _ _) ∙ c .before .before .before .before .before .before .before .if1 .left in
+    let v = c .before .before .before .before .before .colour-value .ensures ∙ ap colourValue (c .before .before .before .before .before .before .before .before .before .bilinear .ensures) ∙ colour-value _ _ z in
+    accepted _ _ _ (lowest-past _ 0 _ (capture-rising img) z ∙ lowest-next 3 _ _ (le-ltb _ _ (c .before .before .before .before .before .before .if2 .left)) ∙ lowest-none)
+    (c .before .before .store-bytes .ensures ∙ ap (λ (k : Rgb). written (colourNumbers k) (a .colour .now)) v)
+
+pub tablet-bilinear-spec : {M : Type 1} → statement M
+tablet-bilinear-spec =
+    tie.close
+    (tie.spec
+    bilinear-requires
+    colour-number-requires
+    returns
+    returns-2
+    colour-value-requires
+    slice-aggregate-store-bytes
+    store-bytes-requires
+    same-length
+    returns-3)

@@ -1,0 +1,22 @@
+-- `tablet::slices::store_quad` meets its contract. Assumes nothing.
+use Rattle.tablet.specs.Layouts.{quadNumbers}
+use Prim.Native.Nat.{_-_}
+use borrow.Author.Needs.{needs}
+use Rattle.tablet.proofs.slices.store_quad.Statement.{statement}
+use Rattle.tablet.proofs.slices.store_quad.Tie as tie
+
+slice-aggregate-store : tie.Need-slice-aggregate-store
+slice-aggregate-store c = search needs
+
+store-requires : tie.Need-store-requires
+store-requires c κs = search needs
+
+same-length : tie.Need-same-length
+same-length c = search needs
+
+returns : tie.Need-returns
+unfolding quadNumbers
+returns c = c .before .before .store .ensures
+
+pub store-quad-spec : {M : Type 1} → statement M
+store-quad-spec = tie.close (tie.spec slice-aggregate-store store-requires same-length returns)

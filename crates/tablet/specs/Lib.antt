@@ -1,0 +1,6 @@
+-- Definitions that the contracts of this crate cite.
+pub mod Slices
+pub mod Layouts
+pub mod Tests
+pub mod Doors
+pub mod Whole

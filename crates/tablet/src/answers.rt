@@ -1,0 +1,203 @@
+// The doors' answers as a number and a value, and the number where a slice of numbers is too short.
+use fit::Grade;
+use frame::FrameSpec;
+use frame::Number;
+use frame::Point;
+use frame::Quad;
+use frame::Rgb;
+use frame::Verdict;
+use frame::internal::capture_wrong;
+use frame::internal::frame_outside;
+use frame::internal::sides_wrong;
+use markers::Centers;
+use radial::Lens;
+use radial::Radial;
+use sampling::Colour;
+ghost use mathlib.Core.Path.{_≡_};
+ghost use mathlib.Core.Bool.{_&&_};
+ghost use lib.Dec.{leb};
+ghost use Rattle.frame.specs.Image.{image};
+ghost use Rattle.frame.specs.Refusals.{numberOf, lowestOf};
+ghost use Rattle.frame.specs.Answers.{numberRefusal, numberValue};
+ghost use Rattle.markers.specs.Answers.{centersRefusal, centersValue};
+ghost use Rattle.radial.specs.Lens.{lensRefusal, lensValue};
+ghost use Rattle.sampling.specs.Answers.{colourRefusal, colourValue};
+ghost use Rattle.fit.specs.Grid.{scoreOf};
+ghost use Rattle.tablet.specs.Layouts.{gradeNumber, outsideCell};
+ghost use Rattle.tablet.specs.Tests.{frameFirst, sidesFirst, captureFirst, maskFirst};
+
+pub fn number_of(v: Verdict) -> u32
+    ensures { λ r. ⌜ r ≡ numberOf v ⌝ }
+{
+    match v {
+        Verdict::Accepted => 0,
+        Verdict::Refused(n) => n,
+    }
+}
+
+pub fn count_number(a: Number) -> u32
+    ensures { λ r. ⌜ r ≡ numberRefusal a ⌝ }
+{
+    match a {
+        Number::Is(_) => 0,
+        Number::Refused(n) => n,
+    }
+}
+
+pub fn count_value(a: Number) -> u64
+    ensures { λ r. ⌜ r ≡ numberValue a ⌝ }
+{
+    match a {
+        Number::Is(v) => v as u64,
+        Number::Refused(_) => 0,
+    }
+}
+
+pub fn lens_number(a: Lens) -> u32
+    ensures { λ r. ⌜ r ≡ lensRefusal a ⌝ }
+{
+    match a {
+        Lens::Is(_) => 0,
+        Lens::Refused(n) => n,
+    }
+}
+
+pub fn lens_value(a: Lens) -> Radial
+    ensures { λ r. ⌜ r ≡ lensValue a ⌝ }
+{
+    match a {
+        Lens::Is(l) => l,
+        Lens::Refused(_) => Radial {
+            k: 0.0,
+            cx: 0.0,
+            cy: 0.0,
+            norm: 1.0,
+        },
+    }
+}
+
+pub fn colour_number(a: Colour) -> u32
+    ensures { λ r. ⌜ r ≡ colourRefusal a ⌝ }
+{
+    match a {
+        Colour::Is(_) => 0,
+        Colour::Refused(n) => n,
+    }
+}
+
+pub fn colour_value(a: Colour) -> Rgb
+    ensures { λ r. ⌜ r ≡ colourValue a ⌝ }
+{
+    match a {
+        Colour::Is(c) => c,
+        Colour::Refused(_) => Rgb { r: 0, g: 0, b: 0 },
+    }
+}
+
+pub fn centers_number(a: Centers) -> u32
+    ensures { λ r. ⌜ r ≡ centersRefusal a ⌝ }
+{
+    match a {
+        Centers::Are(_) => 0,
+        Centers::Refused(n) => n,
+    }
+}
+
+pub fn centers_value(a: Centers) -> Quad
+    ensures { λ r. ⌜ r ≡ centersValue a ⌝ }
+{
+    match a {
+        Centers::Are(q) => q,
+        Centers::Refused(_) => Quad {
+            tl: Point { x: 0.0, y: 0.0 },
+            tr: Point { x: 0.0, y: 0.0 },
+            br: Point { x: 0.0, y: 0.0 },
+            bl: Point { x: 0.0, y: 0.0 },
+        },
+    }
+}
+
+// A grade's two numbers, and its score.
+pub fn grade_number(g: Grade) -> u64
+    ensures { λ r. ⌜ r ≡ gradeNumber g ⌝ }
+{
+    match g {
+        Grade::Score(_) => 0,
+        Grade::Outside(_) => 1,
+        Grade::TooFew => 2,
+    }
+}
+
+pub fn outside_cell(g: Grade) -> u64
+    ensures { λ r. ⌜ r ≡ outsideCell g ⌝ }
+{
+    match g {
+        Grade::Score(_) => 0,
+        Grade::Outside(cell) => cell as u64,
+        Grade::TooFew => 0,
+    }
+}
+
+pub fn score_of(g: Grade) -> f64
+    ensures { λ r. ⌜ r ≡ scoreOf g ⌝ }
+{
+    match g {
+        Grade::Score(s) => s,
+        Grade::Outside(_) => -(1.0 / 0.0),
+        Grade::TooFew => -(1.0 / 0.0),
+    }
+}
+
+// A refusal that changes no memory.
+pub fn untouched(n: u32) -> bool
+    ensures { λ r. ⌜ r ≡ (leb 1 n && leb n 6) ⌝ }
+{
+    (1 <= n) & (n <= 6)
+}
+
+// ---- where a slice of numbers is too short: a lower number that applies, or 3
+
+pub fn frame_first(frame: FrameSpec) -> u32
+    ensures { λ r. ⌜ (r ≡ lowestOf (frameFirst frame)) × (r ≡ 0 → ⊥) ⌝ }
+{
+    if frame_outside(frame) {
+        return 1;
+    }
+    3
+}
+
+pub fn sides_first(w: usize, h: usize, frame: FrameSpec) -> u32
+    ensures { λ r. ⌜ (r ≡ lowestOf (sidesFirst w h frame)) × (r ≡ 0 → ⊥) ⌝ }
+{
+    if frame_outside(frame) {
+        return 1;
+    }
+    if sides_wrong(w, h) {
+        return 2;
+    }
+    3
+}
+
+pub fn capture_first(capture: &[u8], w: usize, h: usize, frame: FrameSpec) -> u32
+    ensures { λ r. ⌜ r ≡ lowestOf (captureFirst (image w h (now (capture .entry))) frame) ⌝ }
+{
+    if frame_outside(frame) {
+        return 1;
+    }
+    if capture_wrong(capture, w, h) {
+        return 2;
+    }
+    3
+}
+
+pub fn mask_first(mask: usize, w: usize, h: usize) -> u32
+    ensures { λ r. ⌜ r ≡ lowestOf (maskFirst mask w h) ⌝ }
+{
+    if sides_wrong(w, h) {
+        return 2;
+    }
+    if mask != w * h {
+        return 2;
+    }
+    3
+}
