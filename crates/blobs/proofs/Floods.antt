@@ -7,10 +7,10 @@ use native.Mathlib.Omega.{arith}
 use mathlib.Core.Path.{_≡_, refl, sym, ap, _∙_, subst}
 use mathlib.Core.List.{List, [], _∷_}
 use mathlib.Core.Logic.{_⊎_, inl, inr, ⊎-elim}
-use lib.ListN.{length, getD, set, length-set}
+use lib.ListN.{length, set, length-set}
 use lib.Seq.{getD-set-same}
 use Rattle.base.specs.Loops.{turns}
-use Rattle.base.proofs.Turns.{turns-keep, turns-more}
+use Rattle.base.proofs.Turns.{turns-keep}
 use Rattle.blobs.specs.declared.Blob.{Blob}
 use Rattle.blobs.specs.Patches.{Dark, Touch, Joined, total, one, column, row, Marks, PatchOf}
 use Rattle.blobs.specs.Patches.Joined.{here, step}

@@ -2,7 +2,7 @@
 use Prim.Native.Nat.{ℕ}
 use mathlib.Core.Path.{_≡_}
 use mathlib.Core.List.{List}
-use Rattle.blobs.specs.Patches.{Dark, Touch, Joined}
+use Rattle.blobs.specs.Patches.{Dark, Joined}
 use Rattle.blobs.specs.Patches.Joined.{here, step}
 use Rattle.blobs.specs.Ready.{at, Closed}
 use Rattle.blobs.proofs.Grid.{touch-back}

@@ -1,16 +1,15 @@
 -- M7 and M8 over the meaning of a patch. Assumes nothing.
-use mathlib.Core.Path.{_≡_, refl, sym, ap, subst, _∙_}
-use mathlib.Core.Bool.{Bool, true, false, not, cond, _&&_, _||_}
+use mathlib.Core.Path.{_≡_, refl, sym, subst, _∙_}
+use mathlib.Core.Bool.{Bool, true, false, not, _&&_, _||_}
 use mathlib.Core.Logic.{_⊎_, inl, inr, ⊎-elim}
 use mathlib.Core.List.{List, [], _∷_}
-use Prim.Native.Nat.{ℕ, zero, suc, _+_, _*_, _/_, _%_, _≤_, _<_}
+use Prim.Native.Nat.{ℕ, zero, suc, _+_, _%_, _≤_, _<_}
 use native.Mathlib.Nat.{eq-or-lt-of-le, le-of-suc-le-suc, lt-of-not-le}
 use native.Mathlib.Omega.{arith}
-use lib.Dec.{T, leb, ltb, eqb, leb→le, ltb→lt, lt→ltb, eqb→eq, eqb-refl, T-not, not-T, lit<, lit≤}
+use lib.Dec.{T, leb, ltb, eqb, leb→le, lt→ltb, eqb→eq, T-not, not-T, lit<, lit≤}
 use lib.Ieee.Fits.{and-l, and-r, eq→eqb}
-use lib.ListN.{length, getD, drop, List·getD-eq-default}
-use Rattle.blobs.specs.declared.Blob.{Blob}
-use Rattle.blobs.specs.Patches.{Dark, Touch, Joined, total, Marks, Least, Greatest, one, column, row, PatchOf, First, ink, patchAt, PatchList}
+use lib.ListN.{length, getD, List·getD-eq-default}
+use Rattle.blobs.specs.Patches.{Dark, Touch, Joined, total, Marks, one, column, row, PatchOf, First, patchAt, PatchList}
 use Rattle.blobs.specs.Patches.Touch.{right, left, under, over}
 use Rattle.blobs.specs.Patches.Joined.{here, step}
 

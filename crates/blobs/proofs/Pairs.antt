@@ -1,16 +1,16 @@
 -- Of pixels no two of which share an edge there are at most half as many as pixels, rounded up: the mask is covered by pairs of rows, and a single row by pairs of pixels.
 -- Assumes nothing.
-use Prim.Native.Nat.{ℕ, zero, suc, _+_, _*_, _-_, _/_, _%_, _≤_, _<_}
-use native.Mathlib.Nat.{add-mul, mul-add, one-mul, add-assoc, add-zero, zero-mul, suc-mul, mul-one, add-suc, mul-zero, zero-add}
+use Prim.Native.Nat.{ℕ, zero, suc, _+_, _*_, _/_, _%_, _≤_, _<_}
+use native.Mathlib.Nat.{add-mul, mul-add, one-mul, add-zero, zero-mul, suc-mul, mul-one, add-suc}
 use native.Mathlib.Numerals.{add-one}
 use native.Mathlib.Decide.{ℕ-discrete}
 use native.Mathlib.Omega.{arith}
 use mathlib.Core.Path.{_≡_, refl, sym, ap, ap₂, _∙_, subst}
 use mathlib.Core.List.{List}
-use mathlib.Core.Logic.{_⊎_, inl, inr, ⊎-elim}
+use mathlib.Core.Logic.{_⊎_, inl, inr}
 use lib.Arith.{digits-mod}
 use lib.ListN.{length}
-use Rattle.blobs.specs.Patches.{Dark, Touch, Joined, First, total, one}
+use Rattle.blobs.specs.Patches.{Touch, First, total, one}
 use Rattle.blobs.specs.Patches.Touch.{right, left, under, over}
 use Rattle.blobs.specs.Patches.Joined.{here, step}
 use Rattle.blobs.specs.Ready.{at}

@@ -4,13 +4,12 @@ use native.Mathlib.Decide.{decLt, ℕ-discrete}
 use native.Mathlib.Omega.{arith}
 use mathlib.Core.Path.{_≡_, refl, sym, ap, _∙_}
 use mathlib.Core.Bool.{Bool, true, false, not, _||_}
-use mathlib.Core.Logic.{_⊎_, inl, inr, ⊎-elim}
-use mathlib.Core.List.{List, [], _∷_}
+use mathlib.Core.Logic.{_⊎_, inl, inr}
+use mathlib.Core.List.{List}
 use lib.Dec.{ltb, eqb, lit<}
 use lib.ListN.{length}
 use borrow.Author.Tests.{lt-ltb, le-ltb, eq-eqb, ne-eqb}
-use Rattle.frame.specs.Refusals.{Lowest, Tested, check, lowestOf, sidesWrong, verdictOf}
-use Rattle.frame.specs.declared.Verdict.{Verdict}
+use Rattle.frame.specs.Refusals.{Lowest, Tested, lowestOf, sidesWrong, verdictOf}
 use Rattle.frame.specs.declared.Verdict.the-variants as D
 use Rattle.frame.proofs.Tests.{either, or-first, or-second}
 use Rattle.frame.proofs.Lowest.{lowest-of, lowest-first, lowest-next, lowest-none}

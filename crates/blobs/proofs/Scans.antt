@@ -1,11 +1,9 @@
 -- The scan over the pixels: what holds before the pixel i, and what that says at the end. Assumes nothing.
-use Prim.Native.Nat.{ℕ, zero, suc, _+_, _*_, _-_, _/_, _%_, _≤_, _<_, min, max}
+use Prim.Native.Nat.{ℕ, zero, suc, _+_, _*_, _≤_, _<_, max}
 use native.Mathlib.Nat.{mul-mod-left, mul-le-mul, mul-comm}
 use native.Mathlib.Decide.{decLt, ℕ-discrete}
-use native.Mathlib.Numerals.{add-one}
 use native.Mathlib.Omega.{arith}
 use mathlib.Core.Path.{_≡_, refl, sym, ap, _∙_, subst}
-use mathlib.Core.Bool.{cond}
 use mathlib.Core.List.{List, [], _∷_, _++_}
 use mathlib.Core.Logic.{_⊎_, inl, inr, ⊎-elim}
 use lib.Dec.{eqb}
@@ -14,9 +12,9 @@ use lib.Seq.{getD-at}
 use borrow.Author.Tests.{eqb-true, eqb-false}
 use Rattle.base.specs.Loops.{turns}
 use Rattle.blobs.specs.declared.Blob.{Blob}
-use Rattle.blobs.specs.Patches.{Dark, Touch, Joined, total, one, PatchOf, First, ink}
+use Rattle.blobs.specs.Patches.{Dark, Joined, total, one, PatchOf, First, ink}
 use Rattle.blobs.specs.Patches.Joined.{here, step}
-use Rattle.blobs.specs.Stack.{Flooding, flood, Scanned, scanned, listed, scan, unmarked, scanAll}
+use Rattle.blobs.specs.Stack.{Flooding, flood, Scanned, listed, scan, unmarked}
 use Rattle.blobs.specs.Ready.{at, Closed, Ready, Sized}
 use Rattle.blobs.proofs.Sums.{total-same, total-same-f, total-next, total-zero, total-set, at-set, flags-set}
 use Rattle.blobs.proofs.Grid.{dark-inside}

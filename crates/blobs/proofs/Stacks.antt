@@ -1,11 +1,10 @@
 -- The waiting list as a stack, and the steps' cases as equations. Assumes nothing.
-use Prim.Native.Nat.{ℕ, zero, suc, _+_, _*_, _-_, _/_, _%_, _≤_, _<_, max}
+use Prim.Native.Nat.{ℕ, zero, suc, _+_, _*_, _/_, _%_, _≤_, _<_, max}
 use native.Mathlib.Numerals.{add-one}
 use native.Mathlib.Omega.{arith}
 use mathlib.Core.Path.{_≡_, refl, sym, ap, ap₂, _∙_, subst}
-use mathlib.Core.Bool.{cond}
-use mathlib.Core.List.{List, [], _∷_, _++_}
-use lib.Dec.{leb, ltb, eqb}
+use mathlib.Core.List.{List, [], _∷_}
+use lib.Dec.{eqb}
 use lib.ListN.{length, getD, set}
 use lib.Seq.{getD-set-same, getD-set-other}
 use borrow.Author.Tests.{eq-eqb, ne-eqb}
@@ -14,10 +13,10 @@ use Rattle.base.proofs.Pick.{pick-yes, pick-no}
 use Rattle.base.proofs.Turns.{turns-stay}
 use Rattle.blobs.specs.declared.Blob.{Blob}
 use Rattle.blobs.specs.Patches.{patchAt, stored, recordLength}
-use Rattle.blobs.specs.Stack.{Marking, marking, stackOf, look, lookLeft, lookRight, lookUp, lookDown, spread, grow, noBlob, Flooding, flooding, begun, take, turn, flood, Scanned, scanned, listed, scan, unmarked}
-use Rattle.blobs.specs.Ready.{at, Held, Stacked, Pixel, Ready}
-use Rattle.blobs.proofs.Steps.{cond-elim, room, Reach, reach-left, reach-right, reach-up}
-use Rattle.blobs.proofs.Floods.{turn-none, held-pop}
+use Rattle.blobs.specs.Stack.{Marking, marking, stackOf, look, lookLeft, lookRight, lookUp, spread, grow, noBlob, Flooding, flooding, begun, take, turn, flood, Scanned, scanned, listed, scan}
+use Rattle.blobs.specs.Ready.{at, Held, Stacked, Pixel}
+use Rattle.blobs.proofs.Steps.{cond-elim, room, reach-left, reach-right, reach-up}
+use Rattle.blobs.proofs.Floods.{turn-none}
 use Rattle.blobs.proofs.Records.{stored-table}
 
 -- ---- the stack

@@ -1,11 +1,10 @@
 -- What a look at one pixel, and at the four neighbours of one, does to marks and waiting pixels. Assumes nothing.
-use Prim.Native.Nat.{ℕ, zero, suc, _+_, _-_, _*_, _%_, _≤_, _<_}
+use Prim.Native.Nat.{ℕ, _+_, _-_, _%_, _≤_, _<_}
 use native.Mathlib.Nat.{mod-le}
-use native.Mathlib.Decide.{decLt}
 use native.Mathlib.Omega.{arith}
-use mathlib.Core.Path.{_≡_, refl, sym, ap, _∙_, subst}
+use mathlib.Core.Path.{_≡_, refl, sym, _∙_, subst}
 use mathlib.Core.Bool.{Bool, true, false, cond}
-use mathlib.Core.List.{List, [], _∷_}
+use mathlib.Core.List.{List, _∷_}
 use mathlib.Core.Logic.{_⊎_, inl, inr, ⊎-elim}
 use lib.Dec.{leb, ltb, eqb}
 use lib.ListN.{length, getD, set, length-set}
@@ -15,7 +14,7 @@ use Rattle.blobs.specs.Patches.{Dark, Touch, total, one}
 use Rattle.blobs.specs.Patches.Touch.{right, left, under, over}
 use Rattle.blobs.specs.Stack.{Marking, marking, look, lookLeft, lookRight, lookUp, lookDown, spread}
 use Rattle.blobs.specs.Ready.{at, Held, Pixel}
-use Rattle.blobs.proofs.Sums.{total-set, at-set, flags-set, unseen-fewer, summed, summed-one}
+use Rattle.blobs.proofs.Sums.{total-set, at-set, flags-set, unseen-fewer, summed}
 use Rattle.blobs.proofs.Grid.{left-of, right-of, in-row, dark-inside}
 
 -- what holds of both values of a `cond` holds of it

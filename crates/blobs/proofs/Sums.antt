@@ -1,14 +1,14 @@
 -- Sums over the pixels and over those waiting, after a store.
 -- Assumes nothing.
 use Prim.Native.Nat.{ℕ, zero, suc, _+_, _*_, _-_, _≤_, _<_}
-use native.Mathlib.Nat.{mul-one, one-mul, zero-mul, add-zero, mul-le-mul, suc-mul, le-refl, mul-zero, add-mul}
+use native.Mathlib.Nat.{mul-one, one-mul, zero-mul, mul-le-mul, suc-mul, add-mul}
 use native.Mathlib.Numerals.{add-one}
-use native.Mathlib.Decide.{decLt, ℕ-discrete}
+use native.Mathlib.Decide.{ℕ-discrete}
 use native.Mathlib.Omega.{arith}
-use mathlib.Core.Path.{_≡_, refl, sym, ap, ap₂, _∙_, subst}
+use mathlib.Core.Path.{_≡_, refl, sym, ap, ap₂, _∙_}
 use mathlib.Core.List.{List, [], _∷_}
 use mathlib.Core.Logic.{_⊎_, inl, inr, _≢_, ⊎-elim}
-use lib.ListN.{length, getD, set, length-set, List·getD-eq-default}
+use lib.ListN.{length, getD, set}
 use lib.Seq.{getD-set-same, getD-set-other}
 use Rattle.blobs.specs.Patches.{total, one}
 use Rattle.blobs.specs.Ready.{at}

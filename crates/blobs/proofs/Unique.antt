@@ -1,8 +1,8 @@
 -- What the statements decide: a patch has one record, and a mask one patch list. Assumes nothing.
-use mathlib.Core.Path.{_≡_, refl, sym, ap, subst, _∙_}
+use mathlib.Core.Path.{_≡_, sym, ap, subst, _∙_}
 use mathlib.Core.Logic.{_⊎_, inl, inr, ⊎-elim}
 use mathlib.Core.List.{List}
-use Prim.Native.Nat.{ℕ, zero, suc, _+_, _*_, _≤_, _<_}
+use Prim.Native.Nat.{ℕ, zero, suc, _≤_, _<_}
 use native.Mathlib.Nat.{le-antisymm, eq-or-lt-of-le, le-of-suc-le-suc}
 use native.Mathlib.Decide.{decLt}
 use native.Mathlib.Omega.{arith}
@@ -10,7 +10,7 @@ use lib.ListN.{length, getD}
 use lib.Seq.{ext-getD}
 use Rattle.base.specs.Loops.{table}
 use Rattle.blobs.specs.declared.Blob.{Blob}
-use Rattle.blobs.specs.Patches.{Dark, Joined, total, Marks, Least, Greatest, one, column, row, PatchOf, First, patchAt, PatchList}
+use Rattle.blobs.specs.Patches.{Joined, Marks, Least, Greatest, one, column, row, PatchOf, First, patchAt, PatchList}
 use Rattle.blobs.proofs.Sums.{total-same}
 use Rattle.blobs.proofs.Joins.{joined-sym}
 use Rattle.blobs.proofs.Records.{table-same}

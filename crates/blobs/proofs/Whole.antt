@@ -1,15 +1,15 @@
 -- From the end of the scan to what labelling promises. Assumes nothing.
-use Prim.Native.Nat.{ℕ, zero, suc, _+_, _*_, _-_, _/_, _≤_, _<_}
+use Prim.Native.Nat.{ℕ, _+_, _*_, _/_, _≤_, _<_}
 use native.Mathlib.Omega.{arith}
-use mathlib.Core.Path.{_≡_, refl, sym, ap, _∙_, subst}
-use mathlib.Core.List.{List, [], _∷_, _++_}
-use mathlib.Core.Logic.{_⊎_, inl, inr, ⊎-elim}
+use mathlib.Core.Path.{_≡_, sym, ap, _∙_, subst}
+use mathlib.Core.List.{List, [], _++_}
+use mathlib.Core.Logic.{inl, inr, ⊎-elim}
 use lib.ListN.{length, getD, take, drop, replicate, drop-of-length-le, List·getD-eq-default}
 use lib.Seq.{length-take-le, length-front, drop-at}
-use Rattle.base.specs.Loops.{turns, table, filled}
+use Rattle.base.specs.Loops.{turns, table}
 use Rattle.base.proofs.Plane.{filled-is}
 use Rattle.blobs.specs.declared.Blob.{Blob}
-use Rattle.blobs.specs.Patches.{Dark, Joined, total, one, PatchOf, First, ink, recordLength, patchAt, Waited, PatchList}
+use Rattle.blobs.specs.Patches.{total, one, PatchOf, ink, recordLength, patchAt, Waited, PatchList}
 use Rattle.blobs.specs.Stack.{Scanned, scanned, scan, unmarked, scanAll}
 use Rattle.blobs.specs.Ready.{at, Sized}
 use Rattle.blobs.specs.Labels.{Labels}

@@ -5,7 +5,7 @@ ghost use mathlib.Core.List.{[], _∷_};
 ghost use Prim.Native.Nat.{_+_, _*_, _^_, _≤_, _<_, min};
 ghost use lib.Dec.{ltb};
 ghost use lib.ListN.{length};
-ghost use Rattle.candidates.specs.Ring.{tallied, arms, probes, noneMade, shareOf, ringScore, shaped, centre, sizeOf, ringOf, CandidateList, candidateAt, centerAt};
+ghost use Rattle.candidates.specs.Ring.{tallied, arms, shareOf, ringScore, shaped, centre, sizeOf, ringOf, CandidateList, candidateAt, centerAt};
 ghost use Rattle.candidates.specs.Areas.{areas, smallest, shorter, testsBy};
 ghost use Rattle.candidates.specs.Doors.{Looked};
 ghost use Rattle.mask.specs.Mask.{maskPlane};

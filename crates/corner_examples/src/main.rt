@@ -17,9 +17,6 @@ ghost use mathlib.Core.Path.{_≡_};
 ghost use Prim.Native.Nat.{_+_, _*_, _≤_, _<_, min};
 ghost use lib.ListN.{length};
 
-// The longest side of a picture.
-const MOST: usize = 96;
-
 fn main() {
     let mut buf = io::large_buffer();
     let n = io::read_full(0, &mut buf);
@@ -56,12 +53,6 @@ fn picture_at(b: &[u8], at: usize) -> usize
     if b.len() < end {
         return at;
     }
-    if MOST < w {
-        return end;
-    }
-    if MOST < h {
-        return end;
-    }
     picture(&b[start..end], w, h);
     end
 }
@@ -81,23 +72,23 @@ fn number(b: &[u8], i: usize) -> usize
 
 // How many bytes a picture has.
 fn size(w: usize, h: usize) -> usize
-    requires { ⌜ (w ≤ 96) × (h ≤ 96) ⌝ }
-    ensures { λ r. ⌜ (r ≡ 3 * w * h) × (r ≤ 27648) ⌝ }
+    requires { ⌜ (w < 256) × (h < 256) ⌝ }
+    ensures { λ r. ⌜ (r ≡ 3 * w * h) × (r ≤ 195075) ⌝ }
 {
     3 * w * h
 }
 
 fn picture(rects: &[u8], w: usize, h: usize)
-    requires { ⌜ (w ≤ 96) × (h ≤ 96) ⌝ }
+    requires { ⌜ (w < 256) × (h < 256) ⌝ }
 {
-    let mut capture = [255u8; 27648];
+    let mut capture = [255u8; 195075];
     let n = size(w, h);
     find(rects, w, h, &mut capture[..n]);
 }
 
 // What is found once the rectangles are drawn on a white picture.
 fn find(rects: &[u8], w: usize, h: usize, bytes: &mut [u8])
-    requires { ⌜ (w ≤ 96) × (h ≤ 96) × (length (now bytes) ≡ 3 * w * h) ⌝ }
+    requires { ⌜ (w < 256) × (h < 256) × (length (now bytes) ≡ 3 * w * h) ⌝ }
 {
     draw(rects, w, h, bytes);
     let frame = FrameSpec {
@@ -112,7 +103,7 @@ fn find(rects: &[u8], w: usize, h: usize, bytes: &mut [u8])
 
 // The rectangles in their order.
 fn draw(rects: &[u8], w: usize, h: usize, bytes: &mut [u8])
-    requires { ⌜ (w ≤ 96) × (h ≤ 96) × (length (now bytes) ≡ 3 * w * h) ⌝ }
+    requires { ⌜ (w < 256) × (h < 256) × (length (now bytes) ≡ 3 * w * h) ⌝ }
 {
     for i in 0..rects.len() / 5 {
         draw_one(rects, 5 * i, w, h, bytes);
@@ -120,7 +111,7 @@ fn draw(rects: &[u8], w: usize, h: usize, bytes: &mut [u8])
 }
 
 fn draw_one(rects: &[u8], at: usize, w: usize, h: usize, bytes: &mut [u8])
-    requires { ⌜ (at + 5 ≤ length (now rects)) × (w ≤ 96) × (h ≤ 96) × (length (now bytes) ≡ 3 * w * h) ⌝ }
+    requires { ⌜ (at + 5 ≤ length (now rects)) × (w < 256) × (h < 256) × (length (now bytes) ≡ 3 * w * h) ⌝ }
 {
     let grey = rects[at + 4];
     let c = Rgb {
@@ -140,6 +131,7 @@ fn draw_one(rects: &[u8], at: usize, w: usize, h: usize, bytes: &mut [u8])
     );
 }
 
+// The areas are those of a picture of 96 by 96: a larger one is refused by 3.
 fn find_candidates(capture: &[u8], w: usize, h: usize, frame: FrameSpec) {
     let mut luma = [1.0f32; 9216];
     let mut integral = [1.0; 9409];
@@ -169,9 +161,9 @@ fn find_candidates(capture: &[u8], w: usize, h: usize, frame: FrameSpec) {
 }
 
 fn print_counts(verdict: Verdict, patches: usize, candidates: usize) {
-    print_spaced(number_of(verdict));
-    print_spaced(patches as u64);
-    print_line(candidates as u64);
+    print(number_of(verdict), b' ');
+    print(patches as u64, b' ');
+    print(candidates as u64, b'\n');
 }
 
 fn print_candidates(records: &[f64], blob_index: &[u32], k: usize)
@@ -196,7 +188,7 @@ fn print_candidate(records: &[f64], blob_index: &[u32], i: usize)
     print_point(center);
     print_float(c.score);
     print_float(c.size);
-    print_line(c.blob_index as u64);
+    print(c.blob_index as u64, b'\n');
 }
 
 fn find_corners(capture: &[u8], w: usize, h: usize, frame: FrameSpec) {
@@ -229,7 +221,7 @@ fn find_corners(capture: &[u8], w: usize, h: usize, frame: FrameSpec) {
 }
 
 fn print_corners(number: u64, q: Quad, s: Places) {
-    print_line(number);
+    print(number, b'\n');
     if number != 0 {
         return;
     }
@@ -245,7 +237,7 @@ fn print_corners(number: u64, q: Quad, s: Places) {
 
 fn print_corner(p: Point, place: usize) {
     print_point(p);
-    print_line(place as u64);
+    print(place as u64, b'\n');
 }
 
 fn print_point(p: Point) {
@@ -258,14 +250,10 @@ fn print_float(x: f64) {
     io::write_all(1, b" ");
 }
 
-fn print_spaced(n: u64) {
+// A number and the byte after it.
+fn print(n: u64, after: u8) {
     io::print_decimal(1, n);
-    io::write_all(1, b" ");
-}
-
-fn print_line(n: u64) {
-    io::print_decimal(1, n);
-    io::write_all(1, b"\n");
+    io::write_all(1, &[after]);
 }
 
 // The refusal number, or 0.
@@ -293,8 +281,8 @@ fn judge(b: &[u8], at: usize)
         br: point(b, at + 4),
         bl: point(b, at + 6),
     };
-    print_spaced(number_if(one_way(q)));
-    print_line(number_if(too_small(640, 480, q)));
+    print(one_way(q) as u64, b' ');
+    print(too_small(640, 480, q) as u64, b'\n');
 }
 
 fn point(b: &[u8], at: usize) -> Point
@@ -304,8 +292,4 @@ fn point(b: &[u8], at: usize) -> Point
         x: vectors::double(vectors::word(b, at)),
         y: vectors::double(vectors::word(b, at + 1)),
     }
-}
-
-fn number_if(f: bool) -> u64 {
-    if f { 1 } else { 0 }
 }

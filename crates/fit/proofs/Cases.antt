@@ -17,7 +17,7 @@ use Rattle.fit.specs.declared.GeometryFit.{GeometryFit}
 use Rattle.fit.specs.declared.Fitted.{Fitted}
 use Rattle.fit.specs.declared.Grade.{Grade}
 use Rattle.fit.specs.declared.GridScore.the-variants as S
-use Rattle.fit.specs.Fits.{undistorted, fitsFor, fitFor, noFit, unfitted, fittedFor}
+use Rattle.fit.specs.Fits.{undistorted, fitsFor, fitFor, unfitted, fittedFor}
 use Rattle.fit.specs.Doors.{fittedAs, fittedBy, scoredAs}
 
 -- what is the same for every number from two on

@@ -2,7 +2,7 @@
 use mathlib.Core.Path.{_≡_, refl, sym, ap, _∙_}
 use mathlib.Core.Bool.{Bool, true, false, cond}
 use mathlib.Core.List.{List}
-use Prim.Native.Nat.{ℕ, zero, suc, _+_, _*_, _/_, _≤_, _<_}
+use Prim.Native.Nat.{ℕ, _+_, _*_, _/_, _≤_, _<_}
 use native.Mathlib.Omega.{arith}
 use lib.Dec.{ltb, lit≤}
 use lib.Ieee.{Float, nan}
@@ -11,7 +11,7 @@ use Rattle.base.specs.Loops.{turns, filled, byRow}
 use Rattle.base.proofs.Turns.{turns-leave, turns-step, turns-keep, turns-end, turns-cong}
 use Rattle.base.proofs.Plane.{filled-at, filled-step, filled-end}
 use Rattle.base.proofs.Pick.{pick-yes, pick-no}
-use Rattle.float.specs.Floats.{_⊕_, _⊖_, _⊗_, _⊘_, f64, squared, addAt, sumOf}
+use Rattle.float.specs.Floats.{_⊕_, _⊖_, _⊘_, f64, squared, addAt, sumOf}
 use Rattle.frame.specs.Image.{Image, outside}
 use Rattle.frame.specs.Frame.{cols, rows}
 use Rattle.frame.specs.Limits.{FrameHeld}
@@ -24,7 +24,7 @@ use Rattle.frame.specs.declared.FrameSpec.{FrameSpec}
 use Rattle.fit.specs.declared.GeometryFit.{GeometryFit}
 use Rattle.fit.specs.declared.Grade.{Grade}
 use Rattle.fit.specs.declared.Grade.the-variants.{Score, Outside, TooFew}
-use Rattle.fit.specs.Grid.{across, down, tapPlace, luma64, tapOutside, Walk, Going, Ended, onGoing, tapStep, cellStep, rowStep, walked, listed, mean, variance, tap, cellTap, cellMean, cellVariance, fisher, fisherOf, gradeFrom, gradeOf}
+use Rattle.fit.specs.Grid.{across, down, tapPlace, luma64, tapOutside, Walk, Going, Ended, tapStep, cellStep, rowStep, walked, listed, mean, variance, tap, cellTap, cellMean, cellVariance, fisher, fisherOf, gradeFrom, gradeOf}
 
 -- the walk that the loops' variables stand for
 abbrev pub walkOf : Bool → ℕ → Walk

@@ -1,20 +1,18 @@
 -- What `fit_for` and `grid_score` do. Assumes nothing.
 use Prim.Native.Nat.{ℕ, zero, suc, _*_, _≤_}
 use mathlib.Core.Path.{_≡_}
-use mathlib.Core.Bool.{Bool, cond, not, _&&_, _||_}
+use mathlib.Core.Bool.{Bool, not}
 use mathlib.Core.List.{List, [], _∷_}
 use lib.Dec.{ltb}
 use lib.ListN.{length, drop}
 use lib.Ieee.{Float}
 use Rattle.frame.specs.Image.{Image}
-use Rattle.frame.specs.Refusals.{verdictOf, Lowest, Check, check, lowestOf, sidesWrong, frameOutside, captureWrong, captureSmall}
+use Rattle.frame.specs.Refusals.{Check, check, lowestOf, sidesWrong, frameOutside, captureWrong}
 use Rattle.markers.specs.Layout.{noLayout}
 use Rattle.fit.specs.Grid.{across, down, gradeOf}
 use Rattle.fit.specs.Fits.{unfitted, fitsFor}
 use Rattle.frame.specs.declared.FrameSpec.{FrameSpec}
-use Rattle.frame.specs.declared.Point.{Point}
 use Rattle.frame.specs.declared.Quad.{Quad}
-use Rattle.frame.specs.declared.Verdict.{Verdict}
 use Rattle.fit.specs.declared.GeometryFit.{GeometryFit}
 use Rattle.fit.specs.declared.Grade.{Grade}
 use Rattle.fit.specs.declared.Fitted.{Fitted}

@@ -1,8 +1,8 @@
 -- From a detection and a search to what `fit_geometry` promises. Assumes nothing.
-use mathlib.Core.Path.{_≡_, refl, sym, ap, subst, _∙_}
+use mathlib.Core.Path.{_≡_, refl, sym, ap, subst}
 use mathlib.Core.Bool.{Bool, true, false, not, cond, _||_}
-use mathlib.Core.Logic.{_⊎_, inl, inr}
-use mathlib.Core.List.{List, [], _∷_}
+use mathlib.Core.Logic.{inl, inr}
+use mathlib.Core.List.{List, []}
 use Prim.Native.Nat.{ℕ, zero, suc, _≤_, _<_}
 use native.Mathlib.Omega.{arith}
 use lib.Dec.{T, T-not, ltb}
@@ -11,7 +11,7 @@ use borrow.Author.Tests.{ltb-false}
 use lib.Ieee.{Float}
 use Rattle.base.proofs.Pick.{pick-yes, pick-no}
 use Rattle.frame.specs.Image.{Image}
-use Rattle.frame.specs.Refusals.{verdictOf, Lowest, Check, check, Tested, lowestOf, frameOutside, captureWrong, captureSmall}
+use Rattle.frame.specs.Refusals.{Lowest, Check, Tested, lowestOf, frameOutside, captureWrong, captureSmall}
 use Rattle.frame.specs.Refusals.Lowest.{accepted, refused}
 use Rattle.frame.proofs.Lowest.{Rising, lowest-of, none-tested}
 use Rattle.frame.specs.declared.FrameSpec.{FrameSpec}
@@ -22,19 +22,16 @@ use Rattle.candidates.specs.Bounds.{Ready}
 use Rattle.candidates.specs.declared.Lengths.{Lengths}
 use Rattle.candidates.proofs.Looks.{ready}
 use Rattle.fiducials.specs.Answers.{noPlaces}
-use Rattle.fiducials.specs.Doors.{MarkedBy, Undetected, centresAt, Cornered, Detecting}
+use Rattle.fiducials.specs.Doors.{MarkedBy, Undetected, centresAt, Detecting}
 use Rattle.fiducials.specs.Doors.Undetected.{tested, few, shared, crooked}
 use Rattle.fiducials.specs.declared.Found.{Found}
 use Rattle.fiducials.proofs.Unique.{marked-unique}
-use Rattle.fit.specs.declared.Grade.{Grade}
 use Rattle.fit.specs.Doors.{sampledCells, MeansKept}
-use Rattle.search.specs.declared.Outcome.{Outcome}
-use Rattle.search.specs.declared.Outcome.the-variants.{NoHomography, Graded}
 use Rattle.search.specs.declared.Stage.{Stage}
 use Rattle.fit_geometry.specs.declared.Pictured.{Pictured}
 use Rattle.fit_geometry.specs.declared.PictureFit.{PictureFit}
-use Rattle.search.specs.Stages.{begun, keeps, searched, lastCentre, BarrenStage, BestTrial}
-use Rattle.fit_geometry.specs.Doors.{Unfitted, undetected, barren, testsFor, fitTests, unsearched, pictured, Picturing, answerOf, untested, stageOf, Fitting}
+use Rattle.search.specs.Stages.{keeps, searched, lastCentre, BestTrial}
+use Rattle.fit_geometry.specs.Doors.{Unfitted, undetected, barren, testsFor, fitTests, unsearched, pictured, Picturing, answerOf, untested, Fitting}
 use Rattle.search.proofs.Kept.{search-best, tried-78, search-barren, barren-search, some-grade}
 
 -- ---- the lowest number

@@ -5,11 +5,8 @@ use Prim.Native.Nat.{ℕ, zero, suc}
 use Rattle.frame.specs.Refusals.{Check, lowestOf, verdictOf, numberOf}
 use Rattle.frame.specs.Answers.{numberRefusal, numberValue, numberAs, numberFor, framedRefusal, framedValue, framedAs, framedFor}
 use Rattle.frame.specs.declared.FrameSpec.{FrameSpec}
-use Rattle.frame.specs.declared.Verdict.{Verdict}
 use Rattle.frame.specs.declared.Verdict.the-variants as D
-use Rattle.frame.specs.declared.Number.{Number}
 use Rattle.frame.specs.declared.Number.the-variants as N
-use Rattle.frame.specs.declared.Framed.{Framed}
 use Rattle.frame.specs.declared.Framed.the-variants as F
 
 module _ (tests : List Check) where

@@ -1,7 +1,6 @@
 -- Pictures by their pixels: bytes that show the same colour everywhere are the same. Assumes nothing.
 use mathlib.Core.Path.{_≡_, refl, sym, ap, _∙_, subst}
 use mathlib.Core.List.{List}
-use mathlib.Core.Logic.{_⊎_, inl, inr, ⊎-elim}
 use Prim.Native.Nat.{ℕ, zero, suc, _+_, _*_, _/_, _%_, _≤_, _<_}
 use native.Mathlib.Nat.{mul-assoc, mul-comm, mod-lt, div-add-mod', div-lt-iff-lt-mul}
 use native.Mathlib.Omega.{arith}
@@ -11,7 +10,7 @@ use lib.Seq.{getD-set-same, getD-set-other, ext-getD}
 use Rattle.base.specs.Loops.{filled, byRow}
 use Rattle.base.proofs.Plane.{filled-at, length-filled, by-row}
 use Rattle.base.proofs.Arith.{row-in, product-le}
-use Rattle.frame.specs.Image.{Image, image, px, channel, byteOf, withPixel}
+use Rattle.frame.specs.Image.{image, px, channel, byteOf, withPixel}
 use Rattle.frame.specs.declared.Rgb.{Rgb}
 
 -- 3·w·h bytes are 3 for each pixel

@@ -1,19 +1,18 @@
 -- Rectangles of one colour, row by row and pixel by pixel. Assumes nothing.
-use mathlib.Core.Path.{_≡_, refl, sym, ap, _∙_, subst}
-use mathlib.Core.Bool.{Bool, true, false, cond, _&&_, _||_}
+use mathlib.Core.Path.{_≡_, ap, _∙_}
+use mathlib.Core.Bool.{true, cond, _&&_, _||_}
 use mathlib.Core.List.{List}
-use mathlib.Core.Logic.{_⊎_, inl, inr, ⊎-elim}
-use Prim.Native.Nat.{ℕ, zero, suc, _+_, _*_, _-_, _≤_, _<_, min}
-use native.Mathlib.Nat.{le-antisymm}
+use mathlib.Core.Logic.{⊎-elim}
+use Prim.Native.Nat.{ℕ, _+_, _*_, _-_, _≤_, _<_}
 use native.Mathlib.Omega.{arith}
 use lib.Dec.{leb, ltb, eqb}
 use lib.ListN.{length}
 use borrow.Author.Tests.{leb-true, ltb-true, eqb-true, eqb-false, le-leb, lt-ltb}
 use Rattle.base.proofs.Plane.{length-filled, le-or-lt}
-use Rattle.frame.specs.Image.{Image, image, px, byteOf, withPixel, inRect, withRect}
+use Rattle.frame.specs.Image.{image, px, withPixel, inRect, withRect}
 use Rattle.frame.specs.declared.Rgb.{Rgb}
 use Rattle.frame.proofs.Tests.{and-left, and-right, and-both, same-test, cond-or, either, or-cases, or-first, or-second}
-use Rattle.frame.proofs.Pixels.{Shows, same-bytes, filled-shows, shows-filled, length-pixel, pixel-same, pixel-other}
+use Rattle.frame.proofs.Pixels.{Shows, filled-shows, shows-filled, length-pixel, pixel-same, pixel-other}
 use Rattle.base.proofs.Pick.{pick-yes, pick-no}
 
 -- a rectangle's test is its four bounds

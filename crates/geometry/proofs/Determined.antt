@@ -1,14 +1,13 @@
 -- A rectification's answer, its canonical image and its planes, marks and records are decided by the capture, the frame and the lengths. Assumes nothing.
-use Prim.Native.Nat.{ℕ, zero, suc, _*_, _≤_, _<_}
+use Prim.Native.Nat.{ℕ, zero, suc, _≤_}
 use mathlib.Core.Path.{_≡_, refl, sym, ap, subst, _∙_}
 use mathlib.Core.Bool.{Bool, true, false}
-use mathlib.Core.Logic.{_⊎_, inl, inr, ⊎-elim}
+use mathlib.Core.Logic.{inl, inr, ⊎-elim}
 use mathlib.Core.List.{List}
 use native.Mathlib.Omega.{arith}
 use borrow.Author.Tests.{ltb-true, ltb-false}
 use lib.Dec.{ltb}
-use lib.ListN.{length, getD, take}
-use lib.Ieee.{Float}
+use lib.ListN.{length, take}
 use Rattle.base.specs.Loops.{filled}
 use Rattle.base.proofs.Table.{take-filled, filled-whole}
 use Rattle.float.specs.Floats.{f64}
@@ -17,14 +16,12 @@ use Rattle.frame.specs.Refusals.{Check, Lowest, Tested, verdictOf, lowestOf}
 use Rattle.frame.specs.Refusals.Lowest.{accepted, refused}
 use Rattle.frame.specs.declared.FrameSpec.{FrameSpec}
 use Rattle.frame.specs.declared.Quad.{Quad}
-use Rattle.frame.proofs.Lowest.{Rising, above, lowest-of, lowest-unique, lowest-holds}
-use Rattle.candidates.specs.Areas.{Areas, lengthsOf, pixels, integralLength}
-use Rattle.candidates.specs.Doors.{Looked}
+use Rattle.frame.proofs.Lowest.{Rising, lowest-of, lowest-unique, lowest-holds}
+use Rattle.candidates.specs.Areas.{lengthsOf, pixels, integralLength}
 use Rattle.candidates.specs.declared.Lengths.{Lengths}
 use Rattle.candidates.proofs.Determined as look
-use Rattle.fiducials.specs.Doors.{MarkedBy, Undetected, centresAt}
+use Rattle.fiducials.specs.Doors.{MarkedBy, centresAt}
 use Rattle.fiducials.specs.Doors.Undetected.{tested, few, shared, crooked}
-use Rattle.fiducials.specs.declared.Places.{Places}
 use Rattle.fiducials.proofs.Determined.{undetected-positive}
 use Rattle.fiducials.proofs.Unique.{corners-mark, marked-unique, places-unique}
 use Rattle.search.specs.Stages.{searched}
@@ -36,7 +33,7 @@ use Rattle.geometry.specs.Warp.{reading, warped}
 use Rattle.geometry.specs.Doors.{canonicalLength}
 use Rattle.geometry.specs.Rectification.{Lent, testsWith, rectifyTests, Seen, Rectification}
 use Rattle.geometry.specs.Agreement.{SameLengths, Reached, Agreement}
-use Rattle.geometry.proofs.Rectifying.{rising, upto-six, passed, Passed}
+use Rattle.geometry.proofs.Rectifying.{rising, upto-six, passed}
 
 -- ---- numbers
 

@@ -1,16 +1,16 @@
 -- From the tests and a picture's fit to what `rectify` promises. Assumes nothing.
-use Prim.Native.Nat.{ℕ, zero, suc, _≤_, _<_}
-use mathlib.Core.Path.{_≡_, refl, sym, ap, subst, _∙_}
-use mathlib.Core.Bool.{Bool, true, false, not, _||_}
-use mathlib.Core.Logic.{_⊎_, inl, inr}
+use Prim.Native.Nat.{ℕ, zero, suc, _≤_}
+use mathlib.Core.Path.{_≡_, refl, sym, subst}
+use mathlib.Core.Bool.{Bool, true, false, _||_}
+use mathlib.Core.Logic.{inl, inr}
 use mathlib.Core.List.{List}
 use native.Mathlib.Omega.{arith}
 use borrow.Author.Tests.{ltb-false, eqb-true, not-false}
-use lib.Dec.{T, ltb, eqb}
+use lib.Dec.{T, ltb}
 use lib.ListN.{length}
 use lib.Ieee.{Float}
 use Rattle.frame.specs.Image.{Image}
-use Rattle.frame.specs.Refusals.{Lowest, Check, Tested, lowestOf, verdictOf}
+use Rattle.frame.specs.Refusals.{Tested, lowestOf}
 use Rattle.frame.specs.declared.FrameSpec.{FrameSpec}
 use Rattle.frame.proofs.Lowest.{Rising, none-tested}
 use Rattle.frame.proofs.Tests.{or-left, or-right}

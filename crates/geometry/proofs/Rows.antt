@@ -1,5 +1,5 @@
 -- A row of pixels, three bytes each. Assumes nothing.
-use mathlib.Core.Path.{_≡_, refl, sym, ap, _∙_}
+use mathlib.Core.Path.{_≡_, sym, ap, _∙_}
 use mathlib.Core.List.{List}
 use Prim.Native.Nat.{ℕ, _+_, _*_, _/_, _%_, _<_, _≤_}
 use native.Mathlib.Omega.{arith}
@@ -8,7 +8,6 @@ use lib.ListN.{set}
 use Rattle.base.specs.Loops.{filled, byRow}
 use Rattle.base.proofs.Plane.{filled-step, filled-end, by-row}
 use Rattle.frame.specs.Image.{Image, channel, byteOf}
-use Rattle.frame.specs.declared.FrameSpec.{FrameSpec}
 use Rattle.frame.specs.declared.Rgb.{Rgb}
 use Rattle.fit.specs.declared.GeometryFit.{GeometryFit}
 use native.Mathlib.Nat.{mul-comm, mul-assoc}

@@ -13,7 +13,6 @@ use Rattle.frame.proofs.Lowest.{Rising}
 use Rattle.frame.specs.Refusals.{Check, lowestOf}
 use Rattle.frame.specs.declared.Quad.{Quad}
 use Rattle.markers.specs.Answers.{centersRefusal, centersValue, centersAs, centersFor}
-use Rattle.markers.specs.declared.Centers.{Centers}
 use Rattle.markers.specs.declared.Centers.the-variants.{Are, Refused}
 
 module _ (tests : List Check) (q : Quad) where

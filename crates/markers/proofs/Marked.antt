@@ -6,7 +6,6 @@ use Rattle.float.specs.Floats.{f64}
 use Rattle.frame.specs.Refusals.{lowestOf, frameOutside, side, cellHeld}
 use Rattle.frame.specs.declared.FrameSpec.{FrameSpec}
 use Rattle.frame.specs.declared.Point.{Point}
-use Rattle.frame.specs.declared.Quad.{Quad}
 use Rattle.markers.specs.Layout.{markerSize, quietZone, marginFor, marker, noLayout, origins, markerCenters}
 use Rattle.markers.specs.Doors.{layoutTests}
 

@@ -1,22 +1,21 @@
 -- Squares painted one after another. Assumes nothing.
 use mathlib.Core.Path.{_≡_, refl, sym, ap, _∙_}
-use mathlib.Core.Bool.{Bool, true, false, cond, _&&_}
+use mathlib.Core.Bool.{true, false, cond, _&&_}
 use mathlib.Core.List.{List, [], _∷_, _++_}
 use Prim.Native.Nat.{ℕ, _+_, _*_, _-_, _≤_, _<_}
 use native.Mathlib.Omega.{arith}
 use lib.Dec.{leb, ltb}
 use lib.ListN.{length}
 use borrow.Author.Tests.{leb-true, ltb-true, le-leb, lt-ltb}
-use Rattle.base.specs.Loops.{filled}
 use Rattle.base.proofs.Plane.{length-filled}
 use Rattle.base.proofs.Pick.{pick-yes, pick-no}
 use Rattle.float.specs.Floats.{_⊕_}
-use Rattle.frame.specs.Image.{Image, image, px, byteOf, inRect, withRect}
+use Rattle.frame.specs.Image.{image, px, inRect, withRect}
 use Rattle.frame.specs.declared.FrameSpec.{FrameSpec}
 use Rattle.frame.specs.declared.Rgb.{Rgb}
 use Rattle.frame.proofs.Tests.{and-left, and-right, and-both, same-test}
 use Rattle.frame.proofs.Pixels.{Shows, filled-shows, shows-filled}
-use Rattle.frame.proofs.Rectangles.{Within, rect-within, within-rect, painted-length, painted-shows}
+use Rattle.frame.proofs.Rectangles.{rect-within, within-rect, painted-length, painted-shows}
 use Rattle.markers.specs.Stamp.{Square, end, covers, painted, withSquares, squares, stamped}
 
 -- a square covers what its rectangle of pixels holds

@@ -1,12 +1,11 @@
 -- Bounds of the layout's numbers. Assumes nothing.
-use mathlib.Core.Path.{_≡_, refl, ap}
+use mathlib.Core.Path.{_≡_, refl}
 use mathlib.Core.Bool.{Bool, true, false, not, cond, _&&_, _||_}
-use Prim.Native.Nat.{ℕ, _+_, _*_, _-_, _/_, _≤_, min, max}
+use Prim.Native.Nat.{ℕ, _*_, _≤_}
 use native.Mathlib.Omega.{arith}
 use lib.Dec.{leb, ltb}
 use borrow.Author.Tests.{ltb-false}
 use Rattle.frame.specs.Refusals.{side, cellHeld, frameOutside}
-use Rattle.frame.specs.Limits.{FrameHeld}
 use Rattle.frame.specs.declared.FrameSpec.{FrameSpec}
 use Rattle.frame.proofs.Tests.{or-left, or-right}
 use Rattle.markers.specs.Layout.{markerSize, quietZone, marginFor, marker, noLayout, origins, layoutOf}

@@ -1,7 +1,6 @@
 -- Document 01's printed example (M7), and M8, as texts: the definitions give exactly these bytes. Assumes nothing.
-use Prim.Native.Nat.{ℕ}
 use mathlib.Core.Path.{_≡_, refl}
-use mathlib.Core.List.{List, [], _∷_}
+use mathlib.Core.List.{[], _∷_}
 use Rattle.base.specs.Loops.{table, byRow}
 use Rattle.blobs.specs.Patches.{patchAt}
 use Rattle.blobs.proofs.Masks.{mask7, list7, mask8, list8}

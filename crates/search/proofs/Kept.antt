@@ -2,7 +2,7 @@
 use mathlib.Core.Path.{_≡_, refl, sym, ap, subst, _∙_}
 use mathlib.Core.Bool.{Bool, true, false, not, cond}
 use mathlib.Core.Logic.{_⊎_, inl, inr, ⊎-elim}
-use Prim.Native.Nat.{ℕ, zero, suc, _+_, _≤_, _<_}
+use Prim.Native.Nat.{ℕ, zero, suc, _+_, _<_}
 use native.Mathlib.Nat.{eq-or-lt-of-le, le-of-suc-le-suc}
 use native.Mathlib.Omega.{arith}
 use lib.Dec.{T, T-not, not-T}
@@ -17,10 +17,10 @@ use Rattle.search.specs.declared.Stage.{Stage}
 use Rattle.base.specs.Loops.{turns}
 use Rattle.frame.specs.Image.{Image}
 use Rattle.fit.specs.Grid.{scoreOf, gradeOf}
-use Rattle.search.specs.Stages.{takes, stays, staged, replaces, more, asMuch, begun, stageFrom, trialStep, entries, kAt, outcomeOf, BestTrial, nextStage, firstStage, secondStage, searched, lastCentre, onKept, keeps, Barren, BarrenStage}
+use Rattle.search.specs.Stages.{takes, stays, staged, replaces, more, asMuch, begun, stageFrom, entries, kAt, outcomeOf, BestTrial, nextStage, firstStage, secondStage, searched, lastCentre, onKept, keeps, Barren, BarrenStage}
 use Rattle.fit.specs.Fits.{fitFor, fitsFor}
 use Rattle.search.specs.Stages.BarrenStage.{first, second, third}
-use Rattle.fiducials.proofs.Order.{lt-step, step-lt, lt-trans, lt-irrefl, lt-not-le, not-le-nan}
+use Rattle.fiducials.proofs.Order.{step-lt, lt-trans, lt-irrefl, lt-not-le, not-le-nan}
 use Rattle.float.specs.Floats.{f64}
 use Rattle.search.proofs.Entries.{stage-lengths}
 

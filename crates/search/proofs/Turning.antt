@@ -8,7 +8,7 @@ use lib.Dec.{ltb, lit<}
 use lib.Ieee.{Float}
 use borrow.Author.Tests.{lt-ltb, ltb-true}
 use Rattle.base.specs.Loops.{turns}
-use Rattle.base.proofs.Turns.{turns-begin, turns-step, turns-end}
+use Rattle.base.proofs.Turns.{turns-begin, turns-step}
 use Rattle.base.proofs.Plane.{le-or-lt}
 use Rattle.base.proofs.Pick.{pick-yes, pick-no}
 use Rattle.float.specs.Floats.{f64}
@@ -21,10 +21,10 @@ use Rattle.search.specs.declared.Outcome.{Outcome}
 use Rattle.search.specs.declared.Outcome.the-variants.{NoHomography, Graded}
 use Rattle.search.specs.declared.Stage.{Stage}
 use Rattle.search.specs.declared.Search.{Search}
-use Rattle.search.specs.Stages.{entries, trialStep, begun, keeps, staged, takes, stays, replaces, outcomeOf, kAt, stageFrom, nextStage, onKept, firstStage, secondStage, searched, lastCentre}
+use Rattle.search.specs.Stages.{entries, trialStep, begun, keeps, staged, takes, stays, replaces, outcomeOf, kAt, stageFrom, nextStage, onKept, firstStage, secondStage, searched}
 use Rattle.fit.specs.Fits.{fitFor}
 use Rattle.search.specs.Turn.{beginning, advanced, turnOf, Counting}
-use Rattle.search.proofs.Cases.{advanced-entry, advanced-stage, advanced-over, not-first, not-second}
+use Rattle.search.proofs.Cases.{advanced-entry, advanced-stage, advanced-over}
 use Rattle.search.proofs.Entries.{stage-lengths}
 
 false-true : false ≡ true → ⊥

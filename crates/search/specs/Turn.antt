@@ -1,6 +1,6 @@
 -- The lens search a trial at a time: a state, and one turn of it. proofs/Turning shows that turns from the beginning come to `searched`. Assumes nothing.
-use Prim.Native.Nat.{ℕ, _+_, _<_}
-use mathlib.Core.Bool.{Bool, true, false, cond, _&&_}
+use Prim.Native.Nat.{_+_, _<_}
+use mathlib.Core.Bool.{true, false, cond, _&&_}
 use lib.Dec.{ltb}
 use Rattle.float.specs.Floats.{f64}
 use Rattle.frame.specs.Image.{Image}

@@ -1,11 +1,7 @@
 -- `blobs::refusal` meets its contract. Assumes nothing.
-use Prim.Native.Nat.{ℕ, _+_, _-_, _*_, _/_, _%_, _≤_, _<_}
 use native.Mathlib.Omega.{arith}
-use mathlib.Core.Path.{_≡_, refl, sym, ap, subst, _∙_}
-use mathlib.Core.List.{List, [], _∷_}
-use denote.Ref.{now}
+use mathlib.Core.Path.{sym, _∙_}
 use borrow.Author.Needs.{needs}
-use lib.ListN.{length, getD, set}
 use native.Mathlib.Nat.{mul-le-mul}
 use Rattle.frame.proofs.Held.{sides-held}
 use Rattle.blobs.proofs.Refused.{wrong-sides, wrong-length, short-seen, short-waiting, short-patches, long-enough}

@@ -12,12 +12,12 @@ mul-result c = search needs
 
 mul-result-2 : tie.Need-mul-result-2
 mul-result-2 c =
-    let p : 3 * c .args .w * c .args .h ≤ 288 * 96 = mul-le-mul {n₂ = 288} (omega arith) (c .pre .1) in
+    let p : 3 * c .args .w * c .args .h ≤ 765 * 255 = mul-le-mul {n₂ = 765} {m₂ = 255} (omega arith) (omega arith) in
     omega arith
 
 returns : tie.Need-returns
 returns c =
-    let p : 3 * c .args .w * c .args .h ≤ 288 * 96 = mul-le-mul {n₂ = 288} (omega arith) (c .pre .1) in
+    let p : 3 * c .args .w * c .args .h ≤ 765 * 255 = mul-le-mul {n₂ = 765} {m₂ = 255} (omega arith) (omega arith) in
     (refl, omega arith)
 
 pub size-spec : {M : Type 1} → statement M

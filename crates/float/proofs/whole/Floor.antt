@@ -1,7 +1,7 @@
 -- `x.floor() as usize` is `x as usize` for every x, so the port needs no floor of its own. Assumes nothing.
 use mathlib.Core.Path.{_≡_, refl, sym, ap, _∙_, subst}
 use mathlib.Core.Bool.{Bool, true, false, cond, true≢false}
-use Prim.Native.Nat.{ℕ, zero, suc, _+_, _-_, _*_, _/_, _^_, min, _≤_, _<_}
+use Prim.Native.Nat.{ℕ, zero, suc, _+_, _-_, _*_, _/_, _^_, min, _<_}
 use native.Mathlib.Nat.{le-of-eq, lt-of-lt-of-le, lt-of-le-of-lt, mul-one, zero-mul, zero-div, div-one, div-le-self, mul-div-cancel, mul-lt-mul-of-pos-right}
 use lib.IntN.{pos, negsuc}
 use lib.Dec.{T, ltb, lit<, lit≤}

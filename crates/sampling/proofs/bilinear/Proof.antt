@@ -1,5 +1,4 @@
 -- `sampling::bilinear` meets its contract: refused by 2, or the reading. Assumes nothing.
-use Prim.Native.Nat.{_-_}
 use mathlib.Core.Path.{ap, _∙_}
 use borrow.Author.Needs.{needs}
 use Rattle.frame.specs.Refusals.{captureTests}

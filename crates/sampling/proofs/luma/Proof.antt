@@ -1,6 +1,5 @@
 -- `sampling::luma` meets its contract: the decimals are the literals' values. Assumes nothing.
 use lib.Ieee.{ofBits, round}
-use Prim.Native.Nat.{_-_}
 use mathlib.Core.Path.{refl}
 use borrow.Author.Needs.{needs}
 use Rattle.float.specs.Floats.{d32}

@@ -1,7 +1,6 @@
 -- `sampling_examples::run` is safe: the picture is 60 bytes. Assumes nothing.
 use lib.ListN.{length-take}
 use native.Mathlib.Omega.{arith}
-use Prim.Native.Nat.{_-_}
 use borrow.Author.Needs.{needs}
 use Rattle.sampling_examples.proofs.run.Statement.{statement}
 use Rattle.sampling_examples.proofs.run.Tie as tie

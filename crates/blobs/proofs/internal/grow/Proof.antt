@@ -1,11 +1,6 @@
 -- `blobs::internal::grow` meets its contract. Assumes nothing.
-use Prim.Native.Nat.{ℕ, _+_, _-_, _*_, _/_, _%_, _≤_, _<_}
-use native.Mathlib.Omega.{arith}
-use mathlib.Core.Path.{_≡_, refl, sym, ap, subst, _∙_}
-use mathlib.Core.List.{List, [], _∷_}
-use denote.Ref.{now}
+use Prim.Native.Nat.{_+_}
 use borrow.Author.Needs.{needs}
-use lib.ListN.{length, getD, set}
 use Rattle.blobs.specs.Stack.{grow}
 use Rattle.blobs.proofs.internal.grow.Statement.{statement}
 use Rattle.blobs.proofs.internal.grow.Tie as tie

@@ -1,12 +1,10 @@
 -- `blobs::internal::look` meets its contract. Assumes nothing.
-use Prim.Native.Nat.{ℕ, _+_, _-_, _*_, _/_, _%_, _≤_, _<_}
 use native.Mathlib.Omega.{arith}
-use mathlib.Core.Path.{_≡_, refl, sym, ap, subst, _∙_}
-use mathlib.Core.List.{List, [], _∷_}
+use mathlib.Core.Path.{ap, _∙_}
 use denote.Ref.{now}
 use borrow.Author.Needs.{needs}
-use lib.ListN.{length, getD, set}
-use Rattle.blobs.specs.Stack.{marking, stackOf}
+use lib.ListN.{set}
+use Rattle.blobs.specs.Stack.{marking}
 use Rattle.blobs.proofs.Stacks.{look-light, look-seen, look-push, stack-push, stack-room}
 use Rattle.blobs.proofs.internal.look.Statement.{statement}
 use Rattle.blobs.proofs.internal.look.Tie as tie

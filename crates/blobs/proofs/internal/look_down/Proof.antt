@@ -1,12 +1,11 @@
 -- `blobs::internal::look_down` meets its contract. Assumes nothing.
-use Prim.Native.Nat.{ℕ, _+_, _-_, _*_, _/_, _%_, _≤_, _<_}
+use Prim.Native.Nat.{_+_}
 use native.Mathlib.Omega.{arith}
-use mathlib.Core.Path.{_≡_, refl, sym, ap, subst, _∙_}
-use mathlib.Core.List.{List, [], _∷_}
+use mathlib.Core.Path.{ap, _∙_}
 use denote.Ref.{now}
 use borrow.Author.Needs.{needs}
-use lib.ListN.{length, getD, set}
-use lib.Dec.{leb, ltb}
+use lib.ListN.{length}
+use lib.Dec.{ltb}
 use Rattle.base.proofs.Pick.{pick-yes, pick-no}
 use Rattle.blobs.specs.Stack.{marking, stackOf, look, lookDown}
 use borrow.Author.Tests.{lt-ltb, le-ltb}

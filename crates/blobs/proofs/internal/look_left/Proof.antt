@@ -1,12 +1,10 @@
 -- `blobs::internal::look_left` meets its contract. Assumes nothing.
-use Prim.Native.Nat.{ℕ, _+_, _-_, _*_, _/_, _%_, _≤_, _<_}
+use Prim.Native.Nat.{_-_, _%_}
 use native.Mathlib.Omega.{arith}
-use mathlib.Core.Path.{_≡_, refl, sym, ap, subst, _∙_}
-use mathlib.Core.List.{List, [], _∷_}
+use mathlib.Core.Path.{_∙_}
 use denote.Ref.{now}
 use borrow.Author.Needs.{needs}
-use lib.ListN.{length, getD, set}
-use lib.Dec.{leb, ltb}
+use lib.Dec.{ltb}
 use Rattle.base.proofs.Pick.{pick-yes, pick-no}
 use Rattle.blobs.specs.Stack.{marking, stackOf, look, lookLeft}
 use native.Mathlib.Nat.{mod-le}

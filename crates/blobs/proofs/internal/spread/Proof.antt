@@ -1,12 +1,8 @@
 -- `blobs::internal::spread` meets its contract. Assumes nothing.
-use Prim.Native.Nat.{ℕ, _+_, _-_, _*_, _/_, _%_, _≤_, _<_}
-use native.Mathlib.Omega.{arith}
-use mathlib.Core.Path.{_≡_, refl, sym, ap, subst, _∙_}
-use mathlib.Core.List.{List, [], _∷_}
+use mathlib.Core.Path.{ap, _∙_}
 use denote.Ref.{now}
 use borrow.Author.Needs.{needs}
-use lib.ListN.{length, getD, set}
-use Rattle.blobs.specs.Stack.{lookLeft, lookRight, lookUp, lookDown, spread}
+use Rattle.blobs.specs.Stack.{lookRight, lookUp, lookDown, spread}
 use Rattle.blobs.specs.Ready.{Stacked}
 use Rattle.blobs.proofs.Stacks.{stacked-left, stacked-right, stacked-up}
 use Rattle.blobs.proofs.internal.spread.Statement.{statement}

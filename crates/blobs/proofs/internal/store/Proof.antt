@@ -1,11 +1,7 @@
 -- `blobs::internal::store` meets its contract. Assumes nothing.
-use Prim.Native.Nat.{ℕ, _+_, _-_, _*_, _/_, _%_, _≤_, _<_}
 use native.Mathlib.Omega.{arith}
-use mathlib.Core.Path.{_≡_, refl, sym, ap, subst, _∙_}
-use mathlib.Core.List.{List, [], _∷_}
-use denote.Ref.{now}
+use mathlib.Core.Path.{refl}
 use borrow.Author.Needs.{needs}
-use lib.ListN.{length, getD, set}
 use lib.ListN.{length-set}
 use Rattle.blobs.specs.Patches.{stored}
 use Rattle.blobs.proofs.internal.store.Statement.{statement}

@@ -1,7 +1,7 @@
 -- `candidates::internal::candidate_of` meets its contract. Assumes nothing.
 use mathlib.Core.Path.{_≡_, refl, sym, ap, _∙_}
 use mathlib.Core.Bool.{Bool}
-use lib.Ieee.{Float, binary64, ofBits, ofInt, round, le}
+use lib.Ieee.{Float, ofBits, ofInt, round, le}
 use Rattle.float.specs.Floats.{d64}
 use Rattle.candidates.specs.Ring.{enough}
 use Rattle.candidates.proofs.Rules.{ring-passed, ring-low, ring-unshaped}
@@ -21,24 +21,22 @@ center-requires c κs = search needs
 size-requires : tie.Need-size-requires
 size-requires c κs = search needs
 
-threshold : ofBits binary64 0x3fe8_f5c2_8f5c_28f6 ≡ d64 78 100
-unfolding ofBits ofInt d64 round
-threshold = refl
-
--- the literal's test is the rule's
-tested : (s : Float) (b : Bool) → le (ofBits binary64 0x3fe8_f5c2_8f5c_28f6) s ≡ b → enough s ≡ b
+-- the test at the threshold is the rule's
+tested : (x s : Float) (b : Bool) → x ≡ d64 78 100 → le x s ≡ b → enough s ≡ b
 unfolding enough
-tested s b e = ap (λ z. le z s) (sym threshold) ∙ e
+tested x s b t e = ap (λ z. le z s) (sym t) ∙ e
 
 returns : tie.Need-returns
+unfolding ofBits ofInt d64 round
 returns c =
     let a = c .before .before .before .before .before .before .before .before .args in
-    ring-passed _ _ (a .w) (a .h) (a .blob) _ _ _ (sym (c .before .before .before .before .before .shaped .ensures) ∙ c .before .before .before .before .if1 .taken) (c .before .before .before .verify-bullseye .ensures) (tested _ _ (c .before .before .if2 .taken)) (c .before .center .ensures) (c .size .ensures)
+    ring-passed _ _ (a .w) (a .h) (a .blob) _ _ _ (sym (c .before .before .before .before .before .shaped .ensures) ∙ c .before .before .before .before .if1 .taken) (c .before .before .before .verify-bullseye .ensures) (tested _ _ _ refl (c .before .before .if2 .taken)) (c .before .center .ensures) (c .size .ensures)
 
 returns-2 : tie.Need-returns-2
+unfolding ofBits ofInt d64 round
 returns-2 c =
     let a = c .before .before .before .before .before .before .args in
-    ring-low _ _ (a .w) (a .h) (a .blob) _ (sym (c .before .before .before .shaped .ensures) ∙ c .before .before .if1 .taken) (c .before .verify-bullseye .ensures) (tested _ _ (c .if2 .left))
+    ring-low _ _ (a .w) (a .h) (a .blob) _ (sym (c .before .before .before .shaped .ensures) ∙ c .before .before .if1 .taken) (c .before .verify-bullseye .ensures) (tested _ _ _ refl (c .if2 .left))
 
 returns-3 : tie.Need-returns-3
 returns-3 c =

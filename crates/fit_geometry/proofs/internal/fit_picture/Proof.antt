@@ -1,8 +1,4 @@
 -- `fit_geometry::internal::fit_picture` meets its contract. Assumes nothing.
-use native.Mathlib.Omega.{arith}
-use Prim.Native.Nat.{_≤_}
-use mathlib.Core.Path.{refl, sym, ap, subst, _∙_}
-use lib.ListN.{length}
 use Rattle.fit_geometry.proofs.Picturing.{unsearched-is, searched-is}
 use borrow.Author.Needs.{needs}
 use Rattle.fit_geometry.proofs.internal.fit_picture.Statement.{statement}

@@ -1,9 +1,8 @@
 -- `fit_geometry::internal::pictured` meets its contract. Assumes nothing.
-use mathlib.Core.Path.{refl, sym, ap, _∙_}
+use mathlib.Core.Path.{ap, _∙_}
 use Rattle.fiducials.specs.declared.Places.{Places}
 use Rattle.search.specs.Stages.{keeps}
 use Rattle.fit_geometry.proofs.Picturing.{pictured-kept, pictured-none}
-use Rattle.fit_geometry.specs.declared.Pictured.{Pictured}
 use borrow.Author.Needs.{needs}
 use Rattle.fit_geometry.proofs.internal.pictured.Statement.{statement}
 use Rattle.fit_geometry.proofs.internal.pictured.Tie as tie

@@ -1,7 +1,6 @@
 -- `fit_geometry::internal::refused` meets its contract. Assumes nothing.
-use Prim.Native.Nat.{_+_, _*_}
-use mathlib.Core.Path.{_≡_, refl, sym, ap, _∙_}
-use mathlib.Core.Bool.{true, false, _||_}
+use mathlib.Core.Path.{_≡_, sym, ap, _∙_}
+use mathlib.Core.Bool.{false, _||_}
 use denote.Ref.{now}
 use lib.Dec.{ltb}
 use Rattle.frame.specs.Image.{image}

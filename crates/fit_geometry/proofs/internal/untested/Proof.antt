@@ -3,8 +3,6 @@ use mathlib.Core.Path.{_≡_, ap, _∙_}
 use Rattle.search.specs.Turn.{beginning}
 use Rattle.search.specs.Stages.{begun}
 use Rattle.search.specs.declared.Search.{Search}
-use Rattle.search.specs.declared.Stage.{Stage}
-use Rattle.fit_geometry.specs.declared.Pictured.{Pictured}
 use Rattle.fit_geometry.specs.Doors.{untested, answerOf}
 use borrow.Author.Needs.{needs}
 use Rattle.fit_geometry.proofs.internal.untested.Statement.{statement}

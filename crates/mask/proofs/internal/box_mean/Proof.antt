@@ -1,6 +1,5 @@
 -- `mask::internal::box_mean` meets its contract. The box's four corners are entries of the integral. Assumes nothing.
 use native.Mathlib.Omega.{arith}
-use Prim.Native.Nat.{_-_}
 use borrow.Author.Needs.{needs}
 use Rattle.mask.specs.Planes.{entryAt}
 use Rattle.mask.proofs.Boxes.{Corners, corners, box-is}

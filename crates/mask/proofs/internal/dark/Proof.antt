@@ -1,7 +1,7 @@
 -- `mask::internal::dark` meets its contract. Assumes nothing.
 use lib.Ieee.{nan, binary32, sub, lt, ofBits, ofInt}
 use native.Mathlib.Omega.{arith}
-use Prim.Native.Nat.{_+_, _*_, _-_}
+use Prim.Native.Nat.{_+_, _*_}
 use mathlib.Core.Path.{_≡_, sym, ap, _∙_}
 use lib.ListN.{getD}
 use borrow.Author.Needs.{needs}

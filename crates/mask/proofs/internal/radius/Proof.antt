@@ -1,6 +1,5 @@
 -- `mask::internal::radius` meets its contract. Assumes nothing.
 use native.Mathlib.Omega.{arith}
-use Prim.Native.Nat.{_-_}
 use borrow.Author.Needs.{needs}
 use Rattle.mask.specs.Mask.{radius}
 use Rattle.mask.proofs.internal.radius.Statement.{statement}

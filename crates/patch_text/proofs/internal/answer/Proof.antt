@@ -1,7 +1,7 @@
--- `patch_text::answer` meets its contract. Assumes nothing.
-use Prim.Native.Nat.{ℕ, _+_, _-_, _*_, _/_, _%_, _≤_, _<_}
+-- `patch_text::internal::answer` meets its contract. Assumes nothing.
+use Prim.Native.Nat.{_*_, _≤_}
 use native.Mathlib.Omega.{arith}
-use mathlib.Core.Path.{_≡_, refl, sym, ap, subst, _∙_}
+use mathlib.Core.Path.{_≡_, sym, subst}
 use denote.Ref.{now}
 use borrow.Author.Needs.{needs}
 use lib.ListN.{length, take}
@@ -9,7 +9,7 @@ use lib.Seq.{length-take-le}
 use Rattle.base.specs.Loops.{table}
 use Rattle.blobs.specs.Labels.{Labels}
 use Rattle.blobs.proofs.Refused.{long-enough}
-use Rattle.patch_text.specs.Text.{Reads, Answered}
+use Rattle.patch_text.specs.Text.{Reads}
 use Rattle.patch_text.specs.Text.Answered.{accepted, refused}
 use Rattle.patch_text.specs.Steps.{pixelAt}
 use Rattle.patch_text.proofs.Texts.{reads-length, reads-area, reads-sides, take-filled}

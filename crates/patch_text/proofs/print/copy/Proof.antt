@@ -1,14 +1,11 @@
 -- `patch_text::print::copy` meets its contract. Assumes nothing.
-use Prim.Native.Nat.{ℕ, _+_, _-_, _*_, _/_, _%_, _≤_, _<_}
+use Prim.Native.Nat.{_+_, _-_, _≤_}
 use native.Mathlib.Omega.{arith}
-use mathlib.Core.Path.{_≡_, refl, sym, ap, subst, _∙_}
+use mathlib.Core.Path.{_≡_, refl, ap, _∙_}
 use denote.Ref.{now}
-use borrow.Author.Needs.{needs}
-use mathlib.Core.List.{List, _++_, append-assoc}
-use native.Mathlib.Numerals.{add-one}
-use native.Mathlib.Nat.{add-zero, add-assoc}
-use lib.ListN.{length, getD, set, take, length-set}
-use lib.Seq.{take-suc, take-suc-set, take-length}
+use mathlib.Core.List.{_++_}
+use lib.ListN.{length, getD, take, length-set}
+use lib.Seq.{take-length}
 use Rattle.patch_text.proofs.Numbers.{copy-none, copy-more}
 use Rattle.patch_text.proofs.print.copy.Statement.{statement}
 use Rattle.patch_text.proofs.print.copy.Tie as tie

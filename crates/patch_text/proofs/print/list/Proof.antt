@@ -1,9 +1,7 @@
 -- `patch_text::print::list` meets its contract. Assumes nothing.
-use Prim.Native.Nat.{ℕ, _+_, _-_, _*_, _/_, _%_, _≤_, _<_}
 use native.Mathlib.Omega.{arith}
-use mathlib.Core.Path.{_≡_, refl, sym, ap, subst, _∙_}
+use mathlib.Core.Path.{_∙_}
 use denote.Ref.{now}
-use borrow.Author.Needs.{needs}
 use Rattle.blobs.specs.Patches.{patchAt}
 use Rattle.patch_text.proofs.Numbers.{listed-text}
 use Rattle.patch_text.proofs.print.list.Statement.{statement}

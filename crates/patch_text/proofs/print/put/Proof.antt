@@ -1,10 +1,10 @@
 -- `patch_text::print::put` meets its contract. Assumes nothing.
-use Prim.Native.Nat.{ℕ, _+_, _-_, _*_, _/_, _%_, _≤_, _<_}
+use Prim.Native.Nat.{_+_, _≤_}
 use native.Mathlib.Omega.{arith}
-use mathlib.Core.Path.{_≡_, refl, sym, ap, subst, _∙_}
+use mathlib.Core.Path.{_≡_, sym, ap, _∙_}
 use denote.Ref.{now}
 use borrow.Author.Needs.{needs}
-use lib.ListN.{length, length-set}
+use lib.ListN.{length-set}
 use Rattle.patch_text.proofs.Numbers.{decimal-is, few-digits, put-is}
 use Rattle.patch_text.proofs.print.put.Statement.{statement}
 use Rattle.patch_text.proofs.print.put.Tie as tie

@@ -1,9 +1,7 @@
 -- `patch_text::print::put_record` meets its contract. Assumes nothing.
-use Prim.Native.Nat.{ℕ, _+_, _-_, _*_, _/_, _%_, _≤_, _<_}
 use native.Mathlib.Omega.{arith}
-use mathlib.Core.Path.{_≡_, refl, sym, ap, subst, _∙_}
+use mathlib.Core.Path.{_∙_}
 use denote.Ref.{now}
-use borrow.Author.Needs.{needs}
 use Rattle.patch_text.specs.Text.{recordLine}
 use Rattle.patch_text.proofs.Numbers.{written-more}
 use Rattle.patch_text.proofs.print.put_record.Statement.{statement}

@@ -1,10 +1,6 @@
 -- `patch_text::print::refused` meets its contract. Assumes nothing.
-use Prim.Native.Nat.{ℕ, _+_, _-_, _*_, _/_, _%_, _≤_, _<_}
 use native.Mathlib.Omega.{arith}
-use mathlib.Core.Path.{_≡_, refl, sym, ap, subst, _∙_}
-use denote.Ref.{now}
 use borrow.Author.Needs.{needs}
-use lib.ListN.{length}
 use Rattle.patch_text.proofs.print.refused.Statement.{statement}
 use Rattle.patch_text.proofs.print.refused.Tie as tie
 

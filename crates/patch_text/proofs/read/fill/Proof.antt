@@ -1,14 +1,14 @@
 -- `patch_text::read::fill` meets its contract. Assumes nothing.
-use Prim.Native.Nat.{ℕ, _+_, _-_, _*_, _/_, _%_, _≤_, _<_}
+use Prim.Native.Nat.{_-_, _*_, _≤_}
 use native.Mathlib.Omega.{arith}
-use mathlib.Core.Path.{_≡_, refl, sym, ap, subst, _∙_}
+use mathlib.Core.Path.{_≡_, refl, _∙_}
 use denote.Ref.{now}
 use borrow.Author.Needs.{needs}
-use native.Mathlib.Nat.{div-add-mod', mul-le-mul, suc-mul, mod-lt, le-refl}
-use lib.ListN.{length, getD, set, length-set}
+use native.Mathlib.Nat.{mul-le-mul}
+use lib.ListN.{length, length-set}
 use Rattle.base.specs.Loops.{filled}
 use Rattle.base.proofs.Plane.{filled-begin, filled-step, filled-end}
-use Rattle.patch_text.specs.Steps.{pixelOf, pixelAt}
+use Rattle.patch_text.specs.Steps.{pixelAt}
 use Rattle.patch_text.proofs.Texts.{place-in}
 use Rattle.patch_text.proofs.read.fill.Statement.{statement}
 use Rattle.patch_text.proofs.read.fill.Tie as tie

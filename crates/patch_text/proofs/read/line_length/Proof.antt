@@ -1,9 +1,7 @@
 -- `patch_text::read::line_length` meets its contract. Assumes nothing.
-use Prim.Native.Nat.{ℕ, _+_, _-_, _*_, _/_, _%_, _≤_, _<_}
+use Prim.Native.Nat.{ℕ, _-_, _≤_, _<_}
 use native.Mathlib.Omega.{arith}
-use mathlib.Core.Path.{_≡_, refl, sym, ap, subst, _∙_}
-use denote.Ref.{now}
-use borrow.Author.Needs.{needs}
+use mathlib.Core.Path.{_≡_}
 use lib.ListN.{length, getD}
 use borrow.Author.Count.{below-more}
 use Rattle.patch_text.specs.Text.{feed}

@@ -1,10 +1,9 @@
 -- `patch_text::read::mask_size` meets its contract. Assumes nothing.
-use Prim.Native.Nat.{ℕ, _+_, _-_, _*_, _/_, _%_, _≤_, _<_}
+use Prim.Native.Nat.{_≤_}
 use native.Mathlib.Omega.{arith}
-use mathlib.Core.Path.{_≡_, refl, sym, ap, subst, _∙_}
+use mathlib.Core.Path.{sym, _∙_}
 use denote.Ref.{now}
 use borrow.Author.Needs.{needs}
-use mathlib.Core.Bool.{not}
 use borrow.Author.Tests.{not-true, not-false}
 use Rattle.patch_text.proofs.Texts.{measured-none, measured-reads, no-line, wide-line, uneven, many-lines, unlettered, lettered-mask}
 use Rattle.patch_text.proofs.read.mask_size.Statement.{statement}

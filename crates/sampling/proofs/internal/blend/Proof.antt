@@ -1,6 +1,5 @@
 -- `sampling::internal::blend` meets its contract. Assumes nothing.
 use lib.Ieee.{ofBits, ofInt}
-use Prim.Native.Nat.{_-_}
 use mathlib.Core.Path.{ap, _∙_}
 use borrow.Author.Needs.{needs}
 use Rattle.float.specs.Floats.{asU8}

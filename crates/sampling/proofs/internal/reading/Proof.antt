@@ -1,6 +1,6 @@
 -- `sampling::internal::reading` meets its contract. The four pixels are in the picture. Assumes nothing.
 use native.Mathlib.Omega.{arith}
-use Prim.Native.Nat.{ℕ, _<_, _-_}
+use Prim.Native.Nat.{ℕ, _<_}
 use mathlib.Core.Path.{_≡_, ap, _∙_}
 use borrow.Author.Needs.{needs}
 use Rattle.frame.specs.Image.{Image, px}

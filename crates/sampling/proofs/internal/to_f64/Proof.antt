@@ -1,6 +1,5 @@
 -- `sampling::internal::to_f64` meets its contract: the cast through `i64` gives the same float. Assumes nothing.
 use native.Mathlib.Omega.{arith}
-use Prim.Native.Nat.{_-_}
 use borrow.Author.Needs.{needs}
 use Rattle.base.proofs.Floats.{held64-signed, signed-float}
 use Rattle.sampling.proofs.internal.to_f64.Statement.{statement}

@@ -1,0 +1,3 @@
+-- Definitions that the contracts of this crate cite.
+pub mod Files
+pub mod Sums
