@@ -1,19 +1,23 @@
 // Store and fetch of one record in a lent slice of records. The borrow checker covers no function
 // over such a slice, so each is thin, and proved by a walk.
 ghost use mathlib.Core.Path.{_≡_};
-ghost use Prim.Native.Nat.{_<_};
+ghost use Prim.Native.Nat.{_+_, _*_, _<_};
 ghost use lib.ListN.{length, set};
+ghost use Rattle.blobs.specs.Patches.{recordLength, patchAt};
+ghost use Rattle.candidates.specs.Ring.{candidateAt};
 ghost use Rattle.records.specs.Records.{blobAt};
 use blobs::Blob;
 use candidates::Candidate;
 
-pub fn store(records: &mut [Blob], j: usize, blob: Blob)
-    requires { ⌜ j < length (now records) ⌝ }
-    ensures { λ _. ⌜ now (records .exit) ≡ set (now (records .entry)) j blob ⌝ }
+// Record j of the flat list, stored as record j of the slice.
+pub fn store(records: &mut [Blob], patches: &[u64], j: usize)
+    requires { ⌜ (j < length (now records)) × (recordLength * j + 6 < length (now patches)) ⌝ }
+    ensures { λ _. ⌜ now (records .exit) ≡ set (now (records .entry)) j (patchAt (now (patches .entry)) j) ⌝ }
 {
-    records[j] = blob;
+    records[j] = blobs::internal::blob_at(patches, j);
 }
 
+// Record j of the slice.
 pub fn fetch(records: &[Blob], j: usize) -> Blob
     requires { ⌜ j < length (now records) ⌝ }
     ensures { λ r. ⌜ r ≡ blobAt (now (records .entry)) j ⌝ }
@@ -21,9 +25,10 @@ pub fn fetch(records: &[Blob], j: usize) -> Blob
     records[j]
 }
 
-pub fn store_candidate(records: &mut [Candidate], j: usize, candidate: Candidate)
-    requires { ⌜ j < length (now records) ⌝ }
-    ensures { λ _. ⌜ now (records .exit) ≡ set (now (records .entry)) j candidate ⌝ }
+// Record i of the flat lists, stored as record i of the slice.
+pub fn store_candidate(records: &mut [Candidate], candidates: &[f64], blob_index: &[u32], i: usize)
+    requires { ⌜ (i < length (now records)) × (4 * i + 3 < length (now candidates)) × (i < length (now «blob_index»)) ⌝ }
+    ensures { λ _. ⌜ now (records .exit) ≡ set (now (records .entry)) i (candidateAt (now (candidates .entry)) (now («blob_index» .entry)) i) ⌝ }
 {
-    records[j] = candidate;
+    records[i] = candidates::internal::candidate_at(candidates, blob_index, i);
 }

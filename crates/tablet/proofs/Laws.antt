@@ -2,7 +2,8 @@
 use mathlib.Core.Path.{_≡_, refl, sym, ap, subst, _∙_}
 use mathlib.Core.Bool.{Bool, true, false, cond, _&&_}
 use mathlib.Core.List.{List, [], _∷_, _++_}
-use Prim.Native.Nat.{ℕ, zero, suc, _≤_, _<_}
+use Prim.Native.Nat.{ℕ, zero, suc, _*_, _^_, _≤_, _<_}
+use native.Mathlib.Nat.{mul-le-mul}
 use native.Mathlib.Omega.{arith}
 use lib.Dec.{T, leb}
 use borrow.Author.Tests.{leb-true}
@@ -117,3 +118,11 @@ module _ {A : Type 0} (n : ℕ) (v l : List A) where
 -- .. of which 0 is none
 pub untouched-positive : (n : ℕ) → leb 1 n && leb n 6 ≡ true → n ≡ 0 → ⊥
 untouched-positive n e z = let h : 1 ≤ n = leb-true 1 n (and-left _ _ e) in omega arith
+
+-- ---- three bytes a pixel fit a number of 64 bits
+
+pub triple : {a : ℕ} → a ≤ 4096 → 3 * a < 2 ^ 64
+triple h = omega arith
+
+pub triple-product : {a b : ℕ} → a ≤ 4096 → b ≤ 4096 → 3 * a * b < 2 ^ 64
+triple-product {a} {b} h k = let x : 3 * a ≤ 12288 = omega arith in omega (arith, mul-le-mul x k)

@@ -2,4 +2,5 @@
 pub mod Laws
 pub mod Solved
 pub mod Given
+pub mod Rising
 pub mod Telling

@@ -1,6 +1,6 @@
 -- In which order numbers stand in a slice (host/include/tablet.h). Assumes nothing.
 use mathlib.Core.List.{List, [], _∷_, _++_}
-use Prim.Native.Nat.{ℕ, zero, suc, _*_}
+use Prim.Native.Nat.{ℕ, _*_}
 use lib.ListN.{getD, take}
 use lib.Ieee.{Float, nan}
 use Rattle.candidates.specs.Areas.{smallest}

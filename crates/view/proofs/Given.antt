@@ -1,16 +1,23 @@
--- The answers of `pixel_at`, by its tests. Assumes nothing.
+-- What the functions over a view require, and the answers of `pixel_at`, by its tests. Assumes nothing.
 use mathlib.Core.Path.{_≡_, refl, sym, ap, _∙_}
 use mathlib.Core.Bool.{Bool, true, false, _&&_}
 use Prim.Native.Nat.{ℕ, _<_, _≤_}
 use lib.Dec.{ltb}
 use borrow.Author.Tests.{lt-ltb, le-ltb}
-use Rattle.frame.specs.Image.{Image, px}
+use denote.Ref.{now}
+use Rattle.frame.specs.Image.{Image, image, px}
+use Rattle.frame.specs.Limits.{CaptureHeld}
 use Rattle.frame.specs.Refusals.{lowestOf, captureTests, captureWrong}
 use Rattle.frame.specs.declared.Rgb.{Rgb}
 use Rattle.frame.proofs.Lowest.{lowest-first, lowest-next, lowest-none}
 use Rattle.frame.proofs.Tests.{and-both}
+use Rattle.view.specs.declared.RgbImage.{RgbImage}
 use Rattle.view.specs.Views.{inside, pixelAs, pixelOf}
 use Rattle.view.specs.declared.Pixel.the-variants as P
+
+-- what `px` requires of a view and a place
+abbrev pub Within : RgbImage → ℕ → ℕ → Type 0
+Within d x y = CaptureHeld (image (d .w) (d .h) (now (d .«data»))) × (x < d .w) × (y < d .h)
 
 and-first : (a b : Bool) → a ≡ false → a && b ≡ false
 and-first a b e = ap (λ (t : Bool). t && b) e

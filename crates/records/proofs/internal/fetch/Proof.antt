@@ -1,7 +1,7 @@
 -- `records::internal::fetch` meets its contract: a walk of its MIR, by hand. The place of `records[j]` is j times 56 bytes past the slice's pointer, the slice is looked into, record j is taken out of the row, read, and put back, and the token comes back.
 -- The code has no check of the bound: it is the contract's to ask. That the offset fits a usize follows from the slice's room.
 -- Assumes nothing.
-use mathlib.Core.Path.{_≡_, refl, sym}
+use mathlib.Core.Path.{refl, sym}
 use Prim.Native.Nat.{ℕ, _*_, _<_, _^_}
 use mathlib.Core.List.{List, [], _∷_}
 use lib.ListN.{length, getD}

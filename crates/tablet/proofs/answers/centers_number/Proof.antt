@@ -1,6 +1,5 @@
 -- `tablet::answers::centers_number` meets its contract. Assumes nothing.
 use Rattle.markers.specs.Answers.{centersRefusal}
-use Prim.Native.Nat.{_-_}
 use borrow.Author.Needs.{needs}
 use Rattle.tablet.proofs.answers.centers_number.Statement.{statement}
 use Rattle.tablet.proofs.answers.centers_number.Tie as tie

@@ -1,7 +1,6 @@
 -- `tablet::answers::centers_value` meets its contract. Assumes nothing.
 use lib.Ieee.{ofBits, ofInt}
 use Rattle.markers.specs.Answers.{centersValue}
-use Prim.Native.Nat.{_-_}
 use mathlib.Core.Path.{sym, ap}
 use borrow.Author.Needs.{needs}
 use Rattle.tablet.proofs.answers.centers_value.Statement.{statement}

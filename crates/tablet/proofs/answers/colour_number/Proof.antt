@@ -1,6 +1,5 @@
 -- `tablet::answers::colour_number` meets its contract. Assumes nothing.
 use Rattle.sampling.specs.Answers.{colourRefusal}
-use Prim.Native.Nat.{_-_}
 use borrow.Author.Needs.{needs}
 use Rattle.tablet.proofs.answers.colour_number.Statement.{statement}
 use Rattle.tablet.proofs.answers.colour_number.Tie as tie

@@ -1,6 +1,5 @@
 -- `tablet::answers::colour_value` meets its contract. Assumes nothing.
 use Rattle.sampling.specs.Answers.{colourValue}
-use Prim.Native.Nat.{_-_}
 use mathlib.Core.Path.{sym, ap}
 use borrow.Author.Needs.{needs}
 use Rattle.tablet.proofs.answers.colour_value.Statement.{statement}

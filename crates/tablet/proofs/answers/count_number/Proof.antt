@@ -1,6 +1,5 @@
 -- `tablet::answers::count_number` meets its contract. Assumes nothing.
 use Rattle.frame.specs.Answers.{numberRefusal}
-use Prim.Native.Nat.{_-_}
 use mathlib.Core.Path.{sym, ap}
 use borrow.Author.Needs.{needs}
 use Rattle.tablet.proofs.answers.count_number.Statement.{statement}

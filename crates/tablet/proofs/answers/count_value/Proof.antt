@@ -1,6 +1,5 @@
 -- `tablet::answers::count_value` meets its contract. Assumes nothing.
 use Rattle.frame.specs.Answers.{numberValue}
-use Prim.Native.Nat.{_-_}
 use mathlib.Core.Path.{sym, ap}
 use borrow.Author.Needs.{needs}
 use Rattle.tablet.proofs.answers.count_value.Statement.{statement}

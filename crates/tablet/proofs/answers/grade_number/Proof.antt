@@ -1,6 +1,5 @@
 -- `tablet::answers::grade_number` meets its contract. Assumes nothing.
 use Rattle.tablet.specs.Layouts.{gradeNumber}
-use Prim.Native.Nat.{_-_}
 use borrow.Author.Needs.{needs}
 use Rattle.tablet.proofs.answers.grade_number.Statement.{statement}
 use Rattle.tablet.proofs.answers.grade_number.Tie as tie

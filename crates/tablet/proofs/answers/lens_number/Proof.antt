@@ -1,6 +1,5 @@
 -- `tablet::answers::lens_number` meets its contract. Assumes nothing.
 use Rattle.radial.specs.Lens.{lensRefusal}
-use Prim.Native.Nat.{_-_}
 use mathlib.Core.Path.{sym, ap}
 use borrow.Author.Needs.{needs}
 use Rattle.tablet.proofs.answers.lens_number.Statement.{statement}

@@ -1,7 +1,6 @@
 -- `tablet::answers::lens_value` meets its contract. Assumes nothing.
 use lib.Ieee.{ofBits, ofInt}
 use Rattle.radial.specs.Lens.{lensValue}
-use Prim.Native.Nat.{_-_}
 use mathlib.Core.Path.{sym, ap}
 use borrow.Author.Needs.{needs}
 use Rattle.tablet.proofs.answers.lens_value.Statement.{statement}

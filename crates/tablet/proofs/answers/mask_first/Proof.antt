@@ -8,7 +8,6 @@ use Rattle.frame.specs.Refusals.{sidesWrong}
 use borrow.Author.Tests.{eq-eqb, ne-eqb}
 use mathlib.Core.Bool.{false, not}
 use native.Mathlib.Omega.{arith}
-use Prim.Native.Nat.{_-_}
 use mathlib.Core.Path.{_≡_, refl, sym, ap, _∙_}
 use borrow.Author.Needs.{needs}
 use Rattle.tablet.proofs.answers.mask_first.Statement.{statement}

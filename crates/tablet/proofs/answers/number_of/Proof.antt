@@ -1,6 +1,5 @@
 -- `tablet::answers::number_of` meets its contract. Assumes nothing.
 use Rattle.frame.specs.Refusals.{numberOf}
-use Prim.Native.Nat.{_-_}
 use mathlib.Core.Path.{sym, ap}
 use borrow.Author.Needs.{needs}
 use Rattle.tablet.proofs.answers.number_of.Statement.{statement}

@@ -1,6 +1,5 @@
 -- `tablet::answers::outside_cell` meets its contract. Assumes nothing.
 use Rattle.tablet.specs.Layouts.{outsideCell}
-use Prim.Native.Nat.{_-_}
 use borrow.Author.Needs.{needs}
 use Rattle.tablet.proofs.answers.outside_cell.Statement.{statement}
 use Rattle.tablet.proofs.answers.outside_cell.Tie as tie

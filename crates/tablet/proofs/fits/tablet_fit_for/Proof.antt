@@ -11,7 +11,6 @@ use Rattle.markers.specs.Layout.{noLayout}
 use Rattle.frame.specs.Refusals.{lowestOf, check, frameOutside, sidesWrong, numberOf}
 use mathlib.Core.List.{[], _∷_}
 use mathlib.Core.Bool.{not}
-use Prim.Native.Nat.{_-_}
 use mathlib.Core.Path.{_≡_, sym, ap, _∙_}
 use borrow.Author.Needs.{needs}
 use Rattle.tablet.proofs.fits.tablet_fit_for.Statement.{statement}

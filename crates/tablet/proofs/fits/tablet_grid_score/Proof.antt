@@ -7,7 +7,6 @@ use Rattle.fit.specs.Grid.{gradeOf, scoreOf}
 use Rattle.fit.specs.Doors.{scoreNumber}
 use Rattle.frame.specs.Image.{image}
 use mathlib.Core.List.{[], _∷_}
-use Prim.Native.Nat.{_-_}
 use mathlib.Core.Path.{refl, sym, ap, _∙_}
 use borrow.Author.Needs.{needs}
 use Rattle.tablet.proofs.fits.tablet_grid_score.Statement.{statement}

@@ -10,7 +10,6 @@ use Rattle.frame.specs.Refusals.{lowestOf, frameTests}
 use Rattle.frame.specs.Answers.{numberRefusal, numberValue, numberFor}
 use mathlib.Core.List.{[], _∷_}
 use borrow.Author.Tests.{lt-ltb, le-ltb}
-use Prim.Native.Nat.{_-_}
 use mathlib.Core.Path.{_≡_, sym, ap, _∙_}
 use borrow.Author.Needs.{needs}
 use Rattle.tablet.proofs.frames.tablet_grid.Statement.{statement}

@@ -10,7 +10,6 @@ use Rattle.markers.specs.Answers.{centersRefusal, centersValue, centersFor}
 use Rattle.frame.specs.Refusals.{lowestOf, check, frameOutside}
 use borrow.Author.Tests.{lt-ltb, le-ltb}
 use mathlib.Core.List.{[], _∷_}
-use Prim.Native.Nat.{_-_}
 use mathlib.Core.Path.{_≡_, sym, ap, _∙_}
 use borrow.Author.Needs.{needs}
 use Rattle.tablet.proofs.frames.tablet_marker_centers.Statement.{statement}

@@ -5,13 +5,12 @@ use Rattle.tablet.specs.Slices.{written}
 use Rattle.frame.proofs.Lowest.{lowest-first, lowest-next, lowest-none}
 use Rattle.frame.proofs.Given.{number-number, number-value}
 use Rattle.markers.proofs.Given.{cell-rising}
-use Rattle.markers.specs.Layout.{markerSize, quietZone, marginFor}
+use Rattle.markers.specs.Layout.{markerSize, quietZone}
 use Rattle.markers.specs.Doors.{cellTests}
 use Rattle.frame.specs.Refusals.{lowestOf}
 use Rattle.frame.specs.Answers.{numberRefusal, numberValue, numberFor}
 use mathlib.Core.List.{[], _∷_}
 use borrow.Author.Tests.{lt-ltb, le-ltb}
-use Prim.Native.Nat.{_-_}
 use mathlib.Core.Path.{_≡_, sym, ap, _∙_}
 use borrow.Author.Needs.{needs}
 use Rattle.tablet.proofs.frames.tablet_marker_numbers.Statement.{statement}
@@ -64,11 +63,14 @@ returns-3 c =
     let a = c .before .before .before .before .before .before .before .before .before .before .before .before .before .before .before .args in
     let k = a .cell in
     let z : lowestOf (cellTests k) ≡ 0 = sym (c .before .before .before .before .before .before .before .before .before .before .before .before .count-number .ensures ∙ ap numberRefusal (c .before .before .before .before .before .before .before .before .before .before .before .before .before .marker-size .ensures) ∙ number-number _ _) ∙ c .before .before .before .before .before .before .before .before .before .before .before .if1 .left in
-    let x : c .before .before .before .before .before .before .count-value .result ≡ markerSize k = c .before .before .before .before .before .before .count-value .ensures ∙ ap numberValue (c .before .before .before .before .before .before .before .before .before .before .before .before .before .marker-size .ensures) ∙ number-value _ _ z in
-    let y : c .before .before .before .before .before .count-value2 .result ≡ quietZone k = c .before .before .before .before .before .count-value2 .ensures ∙ ap numberValue (c .before .before .before .before .before .before .before .before .before .quiet-zone .ensures) ∙ number-value _ _ z in
-    let m : c .before .before .before .before .count-value3 .result ≡ marginFor k = c .before .before .before .before .count-value3 .ensures ∙ ap numberValue (c .before .before .before .before .before .before .before .before .margin-for .ensures) ∙ number-value _ _ z in
+    let x = c .before .before .before .before .before .before .count-value .ensures ∙ ap numberValue (c .before .before .before .before .before .before .before .before .before .before .before .before .before .marker-size .ensures) ∙ number-value _ _ z in
+    let y = c .before .before .before .before .before .count-value2 .ensures ∙ ap numberValue (c .before .before .before .before .before .before .before .before .before .quiet-zone .ensures) ∙ number-value _ _ z in
+    let m = c .before .before .before .before .count-value3 .ensures ∙ ap numberValue (c .before .before .before .before .before .before .before .before .margin-for .ensures) ∙ number-value _ _ z in
     accepted _ _ _ (lowest-past _ 0 _ (cell-rising k) z ∙ lowest-next 3 _ _ (le-ltb _ _ (c .before .before .before .before .before .before .before .before .before .before .if2 .left)) ∙ lowest-none)
-    (c .before .before .store-counts .ensures ∙ (let e : written (c .before .before .before .before .before .before .count-value .result ∷ c .before .before .before .before .before .count-value2 .result ∷ c .before .before .before .before .count-value3 .result ∷ []) (a .numbers .now) ≡ written (markerSize k ∷ quietZone k ∷ marginFor k ∷ []) (a .numbers .now) = cc in e))
+    (c .before .before .store-counts .ensures
+    ∙ ap (λ n. written (n ∷ c .before .before .before .before .before .count-value2 .result ∷ c .before .before .before .before .count-value3 .result ∷ []) (a .numbers .now)) x
+    ∙ ap (λ n. written (markerSize k ∷ n ∷ c .before .before .before .before .count-value3 .result ∷ []) (a .numbers .now)) y
+    ∙ ap (λ n. written (markerSize k ∷ quietZone k ∷ n ∷ []) (a .numbers .now)) m)
 
 pub tablet-marker-numbers-spec : {M : Type 1} → statement M
 tablet-marker-numbers-spec =

@@ -1,6 +1,5 @@
 -- `tablet::frames::tablet_stamp_fiducials` meets its contract. Assumes nothing.
 use Rattle.tablet.proofs.Given.{stamping}
-use Prim.Native.Nat.{_-_}
 use borrow.Author.Needs.{needs}
 use Rattle.tablet.proofs.frames.tablet_stamp_fiducials.Statement.{statement}
 use Rattle.tablet.proofs.frames.tablet_stamp_fiducials.Tie as tie

@@ -8,7 +8,6 @@ use Rattle.radial.specs.Lens.{radial, newLens, lensAs, lensRefusal, lensValue}
 use Rattle.frame.proofs.Lowest.{lowest-first, lowest-next, lowest-none, side-rising}
 use Rattle.frame.specs.Refusals.{lowestOf, sideTests}
 use borrow.Author.Tests.{lt-ltb, le-ltb}
-use Prim.Native.Nat.{_-_}
 use mathlib.Core.Path.{_≡_, sym, ap, _∙_}
 use borrow.Author.Needs.{needs}
 use Rattle.tablet.proofs.lens.tablet_radial.Statement.{statement}

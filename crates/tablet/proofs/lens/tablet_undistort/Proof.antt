@@ -1,9 +1,12 @@
 -- `tablet::lens::tablet_undistort` meets its contract. Assumes nothing.
+use Rattle.tablet.specs.Layouts.{pointNumbers}
+use mathlib.Core.Path.{sym, ap, _∙_}
+use Rattle.tablet.specs.Slices.{written}
+use Rattle.radial.specs.Lens as model
+-- `tablet::lens::tablet_undistort` meets its contract. Assumes nothing.
 use Rattle.tablet.proofs.Laws.{refused, accepted}
 use Rattle.tablet.specs.Tests.{moveTests}
 use Rattle.frame.proofs.Lowest.{lowest-first, lowest-next, lowest-none}
-use Prim.Native.Nat.{_-_}
-use mathlib.Core.Path.{_∙_}
 use borrow.Author.Needs.{needs}
 use Rattle.tablet.proofs.lens.tablet_undistort.Statement.{statement}
 use Rattle.tablet.proofs.lens.tablet_undistort.Tie as tie
@@ -13,7 +16,7 @@ short-requires c κs = search needs
 
 returns : tie.Need-returns
 unfolding moveTests
-returns c = refused _ _ _ 2 (lowest-first 3 _ _ (cc))
+returns c = refused _ _ _ 2 (lowest-first 3 _ _ (sym (c .before .short .ensures .0) ∙ c .if1 .taken))
 
 lens-requires : tie.Need-lens-requires
 lens-requires c κs = (c .before .short .ensures .1 (c .if1 .left)) .0
@@ -29,7 +32,10 @@ same-length c = search needs
 
 returns-2 : tie.Need-returns-2
 unfolding moveTests
-returns-2 c = accepted _ _ _ (lowest-next 3 _ _ (cc) ∙ lowest-none) (cc)
+returns-2 c =
+    let a = c .before .before .before .before .before .before .before .before .before .before .args in
+    accepted _ _ _ (lowest-next 3 _ _ (sym (c .before .before .before .before .before .before .before .short .ensures .0) ∙ c .before .before .before .before .before .before .if1 .left) ∙ lowest-none)
+    (c .before .before .store-point .ensures ∙ ap (λ p. written (pointNumbers p) (a .point .now)) (c .before .before .before .before .undistort .ensures ∙ ap (λ l. model.undistort l (record { x = a .x; y = a .y })) (c .before .before .before .before .before .lens .ensures)))
 
 pub tablet-undistort-spec : {M : Type 1} → statement M
 tablet-undistort-spec =

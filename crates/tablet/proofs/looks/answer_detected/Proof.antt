@@ -2,7 +2,6 @@
 use Rattle.tablet.proofs.Laws.{answered-refused, told-not, told-all, untouched-positive}
 use Rattle.tablet.specs.Layouts.{listNumbers, placeNumbers}
 use Rattle.tablet.specs.Slices.{answered}
-use Prim.Native.Nat.{_-_}
 use mathlib.Core.Path.{refl, sym, _∙_}
 use borrow.Author.Needs.{needs}
 use Rattle.tablet.proofs.looks.answer_detected.Statement.{statement}

@@ -2,7 +2,6 @@
 use Rattle.tablet.proofs.Laws.{answered-refused}
 use Rattle.tablet.specs.Layouts.{listNumbers}
 use Rattle.tablet.specs.Slices.{answered}
-use Prim.Native.Nat.{_-_}
 use mathlib.Core.Path.{sym, _∙_}
 use borrow.Author.Needs.{needs}
 use Rattle.tablet.proofs.looks.answer_listed.Statement.{statement}

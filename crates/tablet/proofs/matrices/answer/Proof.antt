@@ -1,7 +1,6 @@
 -- `tablet::matrices::answer` meets its contract. Assumes nothing.
 use Rattle.tablet.proofs.Laws.{answered-refused}
 use Rattle.tablet.specs.Slices.{answered}
-use Prim.Native.Nat.{_-_}
 use mathlib.Core.Path.{sym, _∙_}
 use borrow.Author.Needs.{needs}
 use Rattle.tablet.proofs.matrices.answer.Statement.{statement}

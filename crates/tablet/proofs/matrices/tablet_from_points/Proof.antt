@@ -7,8 +7,7 @@ use Rattle.tablet.proofs.Laws.{refused}
 use Rattle.tablet.specs.Slices.{answered}
 use Rattle.tablet.specs.Tests.{pointsTests}
 use Rattle.frame.proofs.Lowest.{lowest-first, lowest-next}
-use Prim.Native.Nat.{_-_}
-use mathlib.Core.Path.{_≡_, sym, ap, _∙_}
+use mathlib.Core.Path.{sym, ap, _∙_}
 use borrow.Author.Needs.{needs}
 use Rattle.tablet.proofs.matrices.tablet_from_points.Statement.{statement}
 use Rattle.tablet.proofs.matrices.tablet_from_points.Tie as tie
@@ -18,7 +17,7 @@ short3-requires c κs = search needs
 
 returns : tie.Need-returns
 unfolding pointsTests
-returns c = refused _ _ _ 2 (lowest-first 3 _ _ (cc))
+returns c = refused _ _ _ 2 (lowest-first 3 _ _ (sym (c .before .short3 .ensures .0) ∙ c .if1 .taken))
 
 quad-requires : tie.Need-quad-requires
 quad-requires c κs = (c .before .short3 .ensures .1 (c .if1 .left)) .0
@@ -39,10 +38,13 @@ returns-2 : tie.Need-returns-2
 unfolding pointsTests
 returns-2 c =
     let a = c .before .before .before .before .before .before .before .before .before .before .before .before .args in
-    let s : c .before .before .before .before .from-points .result ≡ dlt.fromPoints (quadOf (a .source .now)) (quadOf (a .target .now)) = cc in
+    let s =
+    c .before .before .before .before .from-points .ensures
+    ∙ ap (λ q. dlt.fromPoints q (c .before .before .before .before .before .quad2 .result)) (c .before .before .before .before .before .before .quad .ensures)
+    ∙ ap (dlt.fromPoints (quadOf (a .source .now))) (c .before .before .before .before .before .quad2 .ensures) in
     let n = c .before .before .answer .ensures in
     record {
-      number = n .0 ∙ points-number _ _ _ s ∙ sym (lowest-next 3 _ _ (cc));
+      number = n .0 ∙ points-number _ _ _ s ∙ sym (lowest-next 3 _ _ (sym (c .before .before .before .before .before .before .before .before .short3 .ensures .0) ∙ c .before .before .before .before .before .before .before .if1 .left));
       result = n .1 ∙ ap (λ (g : Solved). answered (c .before .before .answer .result) (matrixNumbers (g .h .m)) (a .matrix .now)) s;
     }
 

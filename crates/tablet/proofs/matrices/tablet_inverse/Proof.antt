@@ -7,7 +7,6 @@ use Rattle.tablet.proofs.Laws.{refused}
 use Rattle.tablet.specs.Slices.{answered}
 use Rattle.tablet.specs.Tests.{inverseTests}
 use Rattle.frame.proofs.Lowest.{lowest-first, lowest-next}
-use Prim.Native.Nat.{_-_}
 use mathlib.Core.Path.{sym, ap, _∙_}
 use borrow.Author.Needs.{needs}
 use Rattle.tablet.proofs.matrices.tablet_inverse.Statement.{statement}
@@ -18,7 +17,7 @@ short-requires c κs = search needs
 
 returns : tie.Need-returns
 unfolding inverseTests
-returns c = refused _ _ _ 2 (lowest-first 3 _ _ (cc))
+returns c = refused _ _ _ 2 (lowest-first 3 _ _ (sym (c .before .short .ensures .0) ∙ c .if1 .taken))
 
 matrix-requires : tie.Need-matrix-requires
 matrix-requires c κs = (c .before .short .ensures .1 (c .if1 .left)) .0
@@ -36,12 +35,11 @@ returns-2 : tie.Need-returns-2
 unfolding inverseTests
 returns-2 c =
     let a = c .before .before .before .before .before .before .before .before .before .before .args in
-    let s = c .before .before .before .before .inverse .ensures in
-    let h = c .before .before .before .before .before .matrix .ensures in
+    let s = c .before .before .before .before .inverse .ensures ∙ ap mat.inverse (c .before .before .before .before .before .matrix .ensures) in
     let n = c .before .before .answer .ensures in
     record {
-      number = n .0 ∙ inverse-number _ _ (s ∙ ap mat.inverse h) ∙ sym (lowest-next 3 _ _ (cc));
-      result = n .1 ∙ ap (λ (g : Solved). answered (c .before .before .answer .result) (matrixNumbers (g .h .m)) (a .result .now)) (s ∙ ap mat.inverse h);
+      number = n .0 ∙ inverse-number _ _ s ∙ sym (lowest-next 3 _ _ (sym (c .before .before .before .before .before .before .before .short .ensures .0) ∙ c .before .before .before .before .before .before .if1 .left));
+      result = n .1 ∙ ap (λ (g : Solved). answered (c .before .before .answer .result) (matrixNumbers (g .h .m)) (a .result .now)) s;
     }
 
 pub tablet-inverse-spec : {M : Type 1} → statement M

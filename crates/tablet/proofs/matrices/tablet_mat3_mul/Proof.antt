@@ -1,9 +1,13 @@
 -- `tablet::matrices::tablet_mat3_mul` meets its contract. Assumes nothing.
+use Rattle.tablet.specs.Layouts.{matrixOf, matrixNumbers}
+use mathlib.Core.Path.{sym, ap, _∙_}
+use Rattle.tablet.specs.Slices.{written}
+use Rattle.homography.specs.declared.Homography.{Homography}
+use Rattle.homography.specs.Homography.{mat3Mul}
+-- `tablet::matrices::tablet_mat3_mul` meets its contract. Assumes nothing.
 use Rattle.tablet.proofs.Laws.{refused, accepted}
 use Rattle.tablet.specs.Tests.{productTests}
 use Rattle.frame.proofs.Lowest.{lowest-first, lowest-next, lowest-none}
-use Prim.Native.Nat.{_-_}
-use mathlib.Core.Path.{_∙_}
 use borrow.Author.Needs.{needs}
 use Rattle.tablet.proofs.matrices.tablet_mat3_mul.Statement.{statement}
 use Rattle.tablet.proofs.matrices.tablet_mat3_mul.Tie as tie
@@ -13,7 +17,7 @@ short3-requires c κs = search needs
 
 returns : tie.Need-returns
 unfolding productTests
-returns c = refused _ _ _ 2 (lowest-first 3 _ _ (cc))
+returns c = refused _ _ _ 2 (lowest-first 3 _ _ (sym (c .before .short3 .ensures .0) ∙ c .if1 .taken))
 
 matrix-requires : tie.Need-matrix-requires
 matrix-requires c κs = (c .before .short3 .ensures .1 (c .if1 .left)) .0
@@ -32,7 +36,15 @@ same-length c = search needs
 
 returns-2 : tie.Need-returns-2
 unfolding productTests
-returns-2 c = accepted _ _ _ (lowest-next 3 _ _ (cc) ∙ lowest-none) (cc)
+returns-2 c =
+    let a = c .before .before .before .before .before .before .before .before .before .before .before .before .before .before .before .before .args in
+    let y = c .before .before .before .before .before .before .before .before .before .matrix2 .result .m in
+    accepted _ _ _ (lowest-next 3 _ _ (sym (c .before .before .before .before .before .before .before .before .before .before .before .before .short3 .ensures .0) ∙ c .before .before .before .before .before .before .before .before .before .before .before .if1 .left) ∙ lowest-none)
+    (c .before .before .store-matrix .ensures
+    ∙ ap (λ m. written (matrixNumbers m) (a .result .now))
+    (c .before .before .before .before .mat3-mul .ensures
+    ∙ ap (λ (h : Homography). mat3Mul (h .m) y) (c .before .before .before .before .before .before .before .before .before .before .matrix .ensures)
+    ∙ ap (λ (h : Homography). mat3Mul (matrixOf (a .a .now) .m) (h .m)) (c .before .before .before .before .before .before .before .before .before .matrix2 .ensures)))
 
 pub tablet-mat3-mul-spec : {M : Type 1} → statement M
 tablet-mat3-mul-spec =

@@ -1,9 +1,13 @@
 -- `tablet::matrices::tablet_rms_error` meets its contract. Assumes nothing.
+use Rattle.tablet.specs.Layouts.{quadOf}
+use mathlib.Core.Path.{sym, ap, _∙_}
+use Rattle.tablet.specs.Slices.{written}
+use Rattle.homography.specs.Homography.{rmsError}
+use mathlib.Core.List.{[], _∷_}
+-- `tablet::matrices::tablet_rms_error` meets its contract. Assumes nothing.
 use Rattle.tablet.proofs.Laws.{refused, accepted}
 use Rattle.tablet.specs.Tests.{errorTests}
 use Rattle.frame.proofs.Lowest.{lowest-first, lowest-next, lowest-none}
-use Prim.Native.Nat.{_-_}
-use mathlib.Core.Path.{_∙_}
 use borrow.Author.Needs.{needs}
 use Rattle.tablet.proofs.matrices.tablet_rms_error.Statement.{statement}
 use Rattle.tablet.proofs.matrices.tablet_rms_error.Tie as tie
@@ -13,7 +17,7 @@ short3-requires c κs = search needs
 
 returns : tie.Need-returns
 unfolding errorTests
-returns c = refused _ _ _ 2 (lowest-first 3 _ _ (cc))
+returns c = refused _ _ _ 2 (lowest-first 3 _ _ (sym (c .before .short3 .ensures .0) ∙ c .if1 .taken))
 
 quad-requires : tie.Need-quad-requires
 quad-requires c κs = (c .before .short3 .ensures .1 (c .if1 .left)) .0
@@ -35,7 +39,14 @@ same-length c = search needs
 
 returns-2 : tie.Need-returns-2
 unfolding errorTests
-returns-2 c = accepted _ _ _ (lowest-next 3 _ _ (cc) ∙ lowest-none) (cc)
+returns-2 c =
+    let a = c .before .before .before .before .before .before .before .before .before .before .before .before .before .args in
+    accepted _ _ _ (lowest-next 3 _ _ (sym (c .before .before .before .before .before .before .before .before .before .short3 .ensures .0) ∙ c .before .before .before .before .before .before .before .before .if1 .left) ∙ lowest-none)
+    (c .before .before .store .ensures
+    ∙ ap (λ e. written (e ∷ []) (a .result .now))
+    (c .before .before .before .before .before .rms-error .ensures
+    ∙ ap (λ q. rmsError q (c .before .before .before .before .before .before .quad2 .result)) (c .before .before .before .before .before .before .before .quad .ensures)
+    ∙ ap (rmsError (quadOf (a .a .now))) (c .before .before .before .before .before .before .quad2 .ensures)))
 
 pub tablet-rms-error-spec : {M : Type 1} → statement M
 tablet-rms-error-spec =

@@ -10,7 +10,6 @@ use Rattle.frame.specs.declared.Rgb.{Rgb}
 use Rattle.frame.specs.Refusals.{lowestOf, captureTests}
 use Rattle.frame.specs.Image.{image}
 use borrow.Author.Tests.{lt-ltb, le-ltb}
-use Prim.Native.Nat.{_-_}
 use mathlib.Core.Path.{_≡_, sym, ap, _∙_}
 use borrow.Author.Needs.{needs}
 use Rattle.tablet.proofs.pictures.tablet_bilinear.Statement.{statement}

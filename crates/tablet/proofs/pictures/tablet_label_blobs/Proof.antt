@@ -3,7 +3,6 @@ use Rattle.tablet.proofs.Given.{labelling}
 use Rattle.tablet.proofs.Laws.{over-short, over-done, answered-refused}
 use Rattle.tablet.specs.Slices.{answered}
 use borrow.Author.Tests.{lt-ltb, le-ltb}
-use Prim.Native.Nat.{_-_}
 use mathlib.Core.Path.{refl, sym, _∙_}
 use borrow.Author.Needs.{needs}
 use Rattle.tablet.proofs.pictures.tablet_label_blobs.Statement.{statement}

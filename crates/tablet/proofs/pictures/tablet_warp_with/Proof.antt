@@ -2,7 +2,6 @@
 use Rattle.tablet.proofs.Given.{warping}
 use Rattle.tablet.proofs.Laws.{over-short, over-done}
 use borrow.Author.Tests.{lt-ltb, le-ltb}
-use Prim.Native.Nat.{_-_}
 use mathlib.Core.Path.{refl}
 use borrow.Author.Needs.{needs}
 use Rattle.tablet.proofs.pictures.tablet_warp_with.Statement.{statement}

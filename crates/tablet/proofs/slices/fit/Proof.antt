@@ -1,6 +1,7 @@
 -- `tablet::slices::fit` meets its contract. Assumes nothing.
-use Rattle.tablet.specs.Layouts.{fitOf}
-use Prim.Native.Nat.{_-_}
+use Rattle.homography.specs.declared.Homography.{Homography}
+use Rattle.tablet.specs.Layouts.{at, fitOf}
+use mathlib.Core.Path.{ap}
 use borrow.Author.Needs.{needs}
 use Rattle.tablet.proofs.slices.fit.Statement.{statement}
 use Rattle.tablet.proofs.slices.fit.Tie as tie
@@ -22,7 +23,9 @@ shared-slice-read-t11 c = search needs
 
 returns : tie.Need-returns
 unfolding fitOf
-returns c = cc
+returns c =
+    let l = c .before .before .before .before .before .before .args .l .now in
+    ap (λ (h : Homography). record { h = h; radial = record { k = at l 9; cx = at l 10; cy = at l 11; norm = at l 12 } }) (c .before .before .before .before .matrix .ensures)
 
 pub fit-spec : {M : Type 1} → statement M
 fit-spec =

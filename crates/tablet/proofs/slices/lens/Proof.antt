@@ -1,6 +1,5 @@
 -- `tablet::slices::lens` meets its contract. Assumes nothing.
 use Rattle.tablet.specs.Layouts.{lensOf}
-use Prim.Native.Nat.{_-_}
 use mathlib.Core.Path.{refl}
 use borrow.Author.Needs.{needs}
 use Rattle.tablet.proofs.slices.lens.Statement.{statement}

@@ -1,6 +1,5 @@
 -- `tablet::slices::quad` meets its contract. Assumes nothing.
 use Rattle.tablet.specs.Layouts.{quadOf}
-use Prim.Native.Nat.{_-_}
 use mathlib.Core.Path.{refl}
 use borrow.Author.Needs.{needs}
 use Rattle.tablet.proofs.slices.quad.Statement.{statement}

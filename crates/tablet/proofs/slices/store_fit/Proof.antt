@@ -1,6 +1,5 @@
 -- `tablet::slices::store_fit` meets its contract. Assumes nothing.
 use Rattle.tablet.specs.Layouts.{fitNumbers, matrixNumbers, lensNumbers}
-use Prim.Native.Nat.{_-_}
 use borrow.Author.Needs.{needs}
 use Rattle.tablet.proofs.slices.store_fit.Statement.{statement}
 use Rattle.tablet.proofs.slices.store_fit.Tie as tie

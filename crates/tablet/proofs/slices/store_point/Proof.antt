@@ -1,6 +1,5 @@
 -- `tablet::slices::store_point` meets its contract. Assumes nothing.
 use Rattle.tablet.specs.Layouts.{pointNumbers}
-use Prim.Native.Nat.{_-_}
 use borrow.Author.Needs.{needs}
 use Rattle.tablet.proofs.slices.store_point.Statement.{statement}
 use Rattle.tablet.proofs.slices.store_point.Tie as tie

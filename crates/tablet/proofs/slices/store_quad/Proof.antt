@@ -1,6 +1,5 @@
 -- `tablet::slices::store_quad` meets its contract. Assumes nothing.
 use Rattle.tablet.specs.Layouts.{quadNumbers}
-use Prim.Native.Nat.{_-_}
 use borrow.Author.Needs.{needs}
 use Rattle.tablet.proofs.slices.store_quad.Statement.{statement}
 use Rattle.tablet.proofs.slices.store_quad.Tie as tie

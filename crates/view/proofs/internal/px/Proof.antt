@@ -43,7 +43,6 @@ use denote.Triple.Walked.{says, needs, Stays, stay-none, walkOf, goes-none, Walk
 use denote.Exit.{yes}
 use denote.Triple.Clauses.{ensured, lasts}
 use Rattle.frame.specs.Image.{image, px as colour}
-use Rattle.frame.specs.Limits.{CaptureHeld}
 use Rattle.frame.specs.declared.Rgb.{Rgb}
 use Rattle.frame.proofs.Rgb as S
 use Rattle.frame.proofs.Rgb.Laws as S′
@@ -52,6 +51,7 @@ use Rattle.frame.proofs.internal.px.Symbol as flat-def
 use Rattle.frame.proofs.internal.px.Symbol.{name as #frame·internal·px}
 use Rattle.frame.proofs.internal.px.Met as flat-thm
 use Rattle.view.specs.declared.RgbImage.{RgbImage}
+use Rattle.view.proofs.Given.{Within}
 use Rattle.view.proofs.RgbImage as T
 use Rattle.view.proofs.RgbImage.Laws as T′
 use Rattle.view.proofs.internal.px.Key.{name as #view·internal·px}
@@ -65,10 +65,6 @@ B κs = T.the-row (namedLft 1 0 tt κs)
 
 abbrev stayed : Stays (px.ended .signature .params) (px.ended .kept)
 stayed = (stay-none B yes, (stay-none (λ _. usize) yes, (stay-none (λ _. usize) yes, tt)))
-
--- what `px` requires of a view and a place
-abbrev Within : RgbImage → ℕ → ℕ → Type 0
-Within d x y = CaptureHeld (image (d .w) (d .h) (now (d .«data»))) × (x < d .w) × (y < d .h)
 
 module _ {M : Type 1} (𝓤 : URA M) (H : Heap 𝓤) (A : Atoms 𝓤) (mem : Memory → SProp 𝓤) (run : Routine → Fun 𝓤) where
   -- the contract that the proof cites

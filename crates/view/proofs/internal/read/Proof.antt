@@ -43,6 +43,7 @@ use Rattle.frame.specs.declared.Rgb.{Rgb}
 use Rattle.frame.proofs.Rgb as S
 use Rattle.frame.proofs.Rgb.Laws as S′
 use Rattle.view.specs.declared.RgbImage.{RgbImage}
+use Rattle.view.proofs.Given.{Within}
 use Rattle.view.proofs.RgbImage as T
 use Rattle.view.proofs.RgbImage.Laws as T′
 use Rattle.view.proofs.internal.new as new
@@ -64,10 +65,6 @@ B κs = T.the-row (namedLft 1 0 tt κs)
 
 abbrev stayed : Stays (read.ended .signature .params) (read.ended .kept)
 stayed = (stay-none-slice (0 ∷ []) tt (plain (λ _. u8)) yes, (stay-none (λ _. usize) yes, (stay-none (λ _. usize) yes, (stay-none (λ _. usize) yes, (stay-none (λ _. usize) yes, tt)))))
-
--- what `px` requires of a view and a place
-abbrev Within : RgbImage → ℕ → ℕ → Type 0
-Within d x y = CaptureHeld (image (d .w) (d .h) (now (d .«data»))) × (x < d .w) × (y < d .h)
 
 module _ {M : Type 1} (𝓤 : URA M) (H : Heap 𝓤) (A : Atoms 𝓤) (mem : Memory → SProp 𝓤) (run : Routine → Fun 𝓤) where
   -- the contracts that the proof cites

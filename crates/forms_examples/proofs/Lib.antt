@@ -1,0 +1,3 @@
+-- Laws that this crate's proofs share.
+mod Arrays
+mod Keeping
