@@ -16,7 +16,6 @@ use lpcorepub::frame::FrameSpec;
 use lpcorepub::geometry::*;
 use lpcorepub::image::RgbImage;
 use std::fmt::Write;
-use std::fs;
 
 struct Picture {
     w: usize,
@@ -100,19 +99,51 @@ fn pictures() -> Vec<Picture> {
         // a quadrilateral that is too small
         Picture::new(96, 96).ring(40, 40, 2).ring(55, 40, 2).ring(55, 55, 2).ring(40, 55, 2),
         // sides of 9, 10, a quarter of the picture and one more
-        Picture::new(64, 64).rect(4, 4, 9, 9, 0).rect(5, 5, 7, 7, 255).rect(7, 7, 3, 3, 0).rect(24, 4, 10, 10, 0).rect(26, 6, 6, 6, 255).rect(28, 8, 2, 2, 0)
-            .rect(4, 24, 16, 16, 0).rect(7, 27, 10, 10, 255).rect(10, 30, 4, 4, 0).rect(30, 24, 17, 17, 0).rect(33, 27, 11, 11, 255).rect(36, 30, 5, 5, 0),
+        Picture::new(64, 64)
+            .rect(4, 4, 9, 9, 0)
+            .rect(5, 5, 7, 7, 255)
+            .rect(7, 7, 3, 3, 0)
+            .rect(24, 4, 10, 10, 0)
+            .rect(26, 6, 6, 6, 255)
+            .rect(28, 8, 2, 2, 0)
+            .rect(4, 24, 16, 16, 0)
+            .rect(7, 27, 10, 10, 255)
+            .rect(10, 30, 4, 4, 0)
+            .rect(30, 24, 17, 17, 0)
+            .rect(33, 27, 11, 11, 255)
+            .rect(36, 30, 5, 5, 0),
         // aspect 2 and more, fill above 0.85
-        Picture::new(96, 96).rect(6, 6, 20, 10, 0).rect(9, 8, 14, 6, 255).rect(12, 9, 8, 4, 0).rect(40, 6, 22, 10, 0).rect(43, 8, 16, 6, 255).rect(46, 9, 10, 4, 0)
-            .rect(6, 40, 20, 20, 0).rect(12, 46, 8, 8, 255).rect(14, 48, 4, 4, 0),
+        Picture::new(96, 96)
+            .rect(6, 6, 20, 10, 0)
+            .rect(9, 8, 14, 6, 255)
+            .rect(12, 9, 8, 4, 0)
+            .rect(40, 6, 22, 10, 0)
+            .rect(43, 8, 16, 6, 255)
+            .rect(46, 9, 10, 4, 0)
+            .rect(6, 40, 20, 20, 0)
+            .rect(12, 46, 8, 8, 255)
+            .rect(14, 48, 4, 4, 0),
         // light and dark 29, 30 and 31 apart
-        Picture::new(96, 96).rect(0, 0, 96, 96, 129).grey_ring(6, 6, 3, 100, 129).rect(40, 0, 56, 96, 130).grey_ring(60, 6, 3, 100, 130)
-            .rect(0, 48, 96, 48, 131).grey_ring(30, 66, 3, 100, 131),
+        Picture::new(96, 96)
+            .rect(0, 0, 96, 96, 129)
+            .grey_ring(6, 6, 3, 100, 129)
+            .rect(40, 0, 56, 96, 130)
+            .grey_ring(60, 6, 3, 100, 130)
+            .rect(0, 48, 96, 48, 131)
+            .grey_ring(30, 66, 3, 100, 131),
         // rings at the edges, whose quiet zone lies outside
         Picture::new(96, 96).ring(0, 0, 3).ring(78, 0, 3).ring(78, 78, 3).ring(0, 78, 3),
         // 15, 14 and 13 probes agree: of the dot three, two and one of the five pixels that probes read
-        Picture::new(96, 96).ring(10, 10, 3).rect(16, 16, 6, 6, 255).rect(18, 18, 2, 2, 0).ring(60, 10, 3).rect(66, 16, 6, 6, 255).rect(68, 18, 2, 1, 0)
-            .ring(10, 60, 3).rect(16, 66, 6, 6, 255).rect(18, 68, 1, 1, 0),
+        Picture::new(96, 96)
+            .ring(10, 10, 3)
+            .rect(16, 16, 6, 6, 255)
+            .rect(18, 18, 2, 2, 0)
+            .ring(60, 10, 3)
+            .rect(66, 16, 6, 6, 255)
+            .rect(68, 18, 2, 1, 0)
+            .ring(10, 60, 3)
+            .rect(16, 66, 6, 6, 255)
+            .rect(18, 68, 1, 1, 0),
     ];
     // grey rectangles at random, and rings of any grey among them
     let mut s = 11u64;
@@ -257,7 +288,8 @@ fn main() {
         let (patches, at) = places(&img, &spec, &cands);
         writeln!(out, "0 {} {}", patches, cands.len()).unwrap();
         for (c, j) in cands.iter().zip(&at) {
-            writeln!(out, "{:016x} {:016x} {:016x} {:016x} {}", bits(c.center[0]), bits(c.center[1]), bits(c.score), bits(c.size), j).unwrap();
+            writeln!(out, "{:016x} {:016x} {:016x} {:016x} {}", bits(c.center[0]), bits(c.center[1]), bits(c.score), bits(c.size), j)
+                .unwrap();
         }
         match detect_fiducials(&img, &spec) {
             None if cands.len() < 4 => writeln!(out, "7").unwrap(),
@@ -280,8 +312,5 @@ fn main() {
         input.extend(q.iter().flatten().flat_map(|v| v.to_bits().to_le_bytes()));
         writeln!(out, "{} {}", agree(&q) as u8, small(&q, 640, 480) as u8).unwrap();
     }
-    let root = "../../crates/corner_examples";
-    fs::create_dir_all(root).unwrap();
-    fs::write(format!("{root}/stdin"), input).unwrap();
-    fs::write(format!("{root}/stdout"), out).unwrap();
+    vectors::write("corner_examples", &input, &out);
 }

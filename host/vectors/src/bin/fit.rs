@@ -15,69 +15,21 @@
 // trials and of homographies. Every NaN is written as one. The original has no refusal numbers: they are document 01's.
 use lpcorepub::frame::FrameSpec;
 use lpcorepub::geometry::{
-    adaptive_black_mask, bilinear, detect_fiducials, fiducial_candidates, fit_for, fit_geometry, grid_score, label_blobs,
-    luma_plane, marker_layout, stamp_fiducials, GeometryFit, Homography, Radial, K_MAX, K_STAGES, TAPS,
+    adaptive_black_mask, bilinear, detect_fiducials, fiducial_candidates, fit_for, fit_geometry, grid_score, label_blobs, luma_plane,
+    marker_layout, stamp_fiducials, GeometryFit, Homography, Radial, K_MAX, K_STAGES, TAPS,
 };
 use lpcorepub::image::RgbImage;
-use std::fs;
+use vectors::{Random, Vectors};
 
-struct Random(u64);
-
-impl Random {
-    // splitmix64
-    fn next(&mut self) -> u64 {
-        self.0 = self.0.wrapping_add(0x9e37_79b9_7f4a_7c15);
-        let mut z = self.0;
-        z = (z ^ (z >> 30)).wrapping_mul(0xbf58_476d_1ce4_e5b9);
-        z = (z ^ (z >> 27)).wrapping_mul(0x94d0_49bb_1331_11eb);
-        z ^ (z >> 31)
-    }
-
-    fn between(&mut self, lo: f64, hi: f64) -> f64 {
-        lo + (hi - lo) * ((self.next() >> 11) as f64 / (1u64 << 53) as f64)
-    }
-}
-
-#[derive(Default)]
-struct Vectors {
-    input: Vec<u8>,
-    answers: String,
-}
-
-impl Vectors {
-    fn ask(&mut self, words: &[u64], length: usize) {
-        let mut words = words.to_vec();
-        assert!(words.len() <= length);
-        words.resize(length, 0);
-        for w in words {
-            self.input.extend(w.to_le_bytes());
+// Matrix and lens.
+fn put_fit(v: &mut Vectors, fit: &GeometryFit) {
+    for row in fit.h.m {
+        for x in row {
+            v.float(x);
         }
     }
-
-    fn word(&mut self, w: u64) {
-        self.answers += &format!("{w:016x}\n");
-    }
-
-    fn float(&mut self, x: f64) {
-        self.word(if x.is_nan() { 0x7ff8_0000_0000_0000 } else { x.to_bits() });
-    }
-
-    fn fit(&mut self, fit: &GeometryFit) {
-        for row in fit.h.m {
-            for x in row {
-                self.float(x);
-            }
-        }
-        for x in [fit.radial.k, fit.radial.cx, fit.radial.cy, fit.radial.norm] {
-            self.float(x);
-        }
-    }
-
-    fn write(&self, name: &str) {
-        let folder = format!("../../crates/{name}");
-        fs::create_dir_all(&folder).unwrap();
-        fs::write(format!("{folder}/stdin"), &self.input).unwrap();
-        fs::write(format!("{folder}/stdout"), &self.answers).unwrap();
+    for x in [fit.radial.k, fit.radial.cx, fit.radial.cy, fit.radial.norm] {
+        v.float(x);
     }
 }
 
@@ -120,7 +72,7 @@ fn ask_fit_for(v: &mut Vectors, w: usize, h: usize, f: &FrameSpec, points: &[[f6
         None => v.word(10),
         Some(fit) => {
             v.word(0);
-            v.fit(&fit);
+            put_fit(v, &fit);
         }
     }
 }
@@ -131,10 +83,7 @@ fn outside(img: &RgbImage, f: &FrameSpec, fit: &GeometryFit) -> Option<usize> {
         for c in (0..f.cols()).step_by(3) {
             let (x0, y0) = f.cell_origin(c, r);
             for i in 0..9 {
-                let p = fit.map([
-                    x0 as f64 + TAPS[i % 3] * f.cell as f64,
-                    y0 as f64 + TAPS[i / 3] * f.cell as f64,
-                ]);
+                let p = fit.map([x0 as f64 + TAPS[i % 3] * f.cell as f64, y0 as f64 + TAPS[i / 3] * f.cell as f64]);
                 if p[0] < 0.0 || p[1] < 0.0 || p[0] >= img.w as f64 || p[1] >= img.h as f64 {
                     return Some(r * f.cols() + c);
                 }
@@ -350,7 +299,7 @@ fn ask_fit_geometry(v: &mut Vectors, name: &str, img: &RgbImage, f: &FrameSpec, 
         let at = blobs.iter().position(|b| [b.sx / b.area as f64 + 0.5, b.sy / b.area as f64 + 0.5] == p);
         v.word(at.unwrap() as u64);
     }
-    v.fit(&fit);
+    put_fit(v, &fit);
     v.float(score);
     v.word(78);
     v.word(homographies(img, f));

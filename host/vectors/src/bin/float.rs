@@ -4,27 +4,14 @@
 // stdin is 64-bit words, lowest byte first: how many vectors each helper has, ten words in the order of HELPERS, and
 // then the vectors of each helper, its arguments and the answer. A NaN answer is written 0x7ff8000000000000, or
 // 0x7fc00000 where it is an f32. stdout names each helper with its count.
-use std::fs;
-
-struct Random(u64);
-
-impl Random {
-    // splitmix64
-    fn next(&mut self) -> u64 {
-        self.0 = self.0.wrapping_add(0x9e37_79b9_7f4a_7c15);
-        let mut z = self.0;
-        z = (z ^ (z >> 30)).wrapping_mul(0xbf58_476d_1ce4_e5b9);
-        z = (z ^ (z >> 27)).wrapping_mul(0x94d0_49bb_1331_11eb);
-        z ^ (z >> 31)
-    }
-}
-
-fn bits(x: f64) -> u64 {
-    if x.is_nan() { 0x7ff8_0000_0000_0000 } else { x.to_bits() }
-}
+use vectors::{bits, Random};
 
 fn bits32(x: f32) -> u64 {
-    if x.is_nan() { 0x7fc0_0000 } else { x.to_bits() as u64 }
+    if x.is_nan() {
+        0x7fc0_0000
+    } else {
+        x.to_bits() as u64
+    }
 }
 
 // x, its two neighbours, and the same with the other sign
@@ -177,7 +164,21 @@ fn run(l: Vec<f64>, f: impl Fn(f64) -> u64) -> Vec<Vec<u64>> {
 fn main() {
     let mut r = Random(6);
     let mut singles: Vec<u32> = (0..200).map(|_| (r.next() >> 32) as u32).collect();
-    singles.extend([0, 0x8000_0000, 1, 0x8000_0001, 0x7f_ffff, 0x80_0000, 0x7f7f_ffff, 0xff7f_ffff, 0x7f80_0000, 0xff80_0000, 0x7fc0_0000, 0x7f80_0001, 0xffff_ffff]);
+    singles.extend([
+        0,
+        0x8000_0000,
+        1,
+        0x8000_0001,
+        0x7f_ffff,
+        0x80_0000,
+        0x7f7f_ffff,
+        0xff7f_ffff,
+        0x7f80_0000,
+        0xff80_0000,
+        0x7fc0_0000,
+        0x7f80_0001,
+        0xffff_ffff,
+    ]);
     let helpers: Vec<(&str, Vec<Vec<u64>>)> = vec![
         ("sqrt", run(sqrt_inputs(), |x| bits(x.sqrt()))),
         ("narrow", run(narrow_inputs(), |x| bits32(x as f32))),
@@ -197,8 +198,6 @@ fn main() {
     let bytes: Vec<u8> = words.iter().flat_map(|w| w.to_le_bytes()).collect();
     assert!(bytes.len() <= 65536, "the program reads 65,536 bytes: {}", bytes.len());
     let counts: String = helpers.iter().map(|(name, v)| format!("{name} {}\n", v.len())).collect();
-    let there = concat!(env!("CARGO_MANIFEST_DIR"), "/../../crates/float_vectors");
-    fs::write(format!("{there}/stdin"), bytes).unwrap();
-    fs::write(format!("{there}/stdout"), &counts).unwrap();
+    vectors::write("float_vectors", &bytes, &counts);
     print!("{counts}");
 }

@@ -4,7 +4,6 @@
 //! M7, and the colours are those of its `px`; the last four lines, places and sizes that the original panics at, are
 //! document 01's refusal 2 and the port's answer for a pixel outside the picture.
 use lpcore::image::RgbImage;
-use std::fs;
 
 const MASK: [&str; 3] = ["#.#", ".#.", "##."];
 
@@ -28,6 +27,5 @@ fn main() {
     }
     out += "outside\noutside\nrefused 2\nrefused 2\n";
 
-    fs::write("../../crates/forms_examples/stdin", input).unwrap();
-    fs::write("../../crates/forms_examples/stdout", out).unwrap();
+    vectors::write("forms_examples", &input, &out);
 }

@@ -6,65 +6,27 @@
 // for from_points and inverse 0 or the refusal's number, and the nine entries (the identity's where it is refused).
 // Every NaN is written as one.
 use lpcore::geometry::{mat3_mul, rms_error, Homography, Mat3};
-use std::fs;
+use vectors::{Random, Vectors};
 
 type Quad = [[f64; 2]; 4];
 
-struct Random(u64);
-
-impl Random {
-    // splitmix64
-    fn next(&mut self) -> u64 {
-        self.0 = self.0.wrapping_add(0x9e37_79b9_7f4a_7c15);
-        let mut z = self.0;
-        z = (z ^ (z >> 30)).wrapping_mul(0xbf58_476d_1ce4_e5b9);
-        z = (z ^ (z >> 27)).wrapping_mul(0x94d0_49bb_1331_11eb);
-        z ^ (z >> 31)
-    }
-
-    fn unit(&mut self) -> f64 {
-        (self.next() >> 11) as f64 / (1u64 << 53) as f64
-    }
-
-    fn between(&mut self, lo: f64, hi: f64) -> f64 {
-        lo + (hi - lo) * self.unit()
-    }
-
-    fn below(&mut self, n: u64) -> usize {
-        (self.next() % n) as usize
-    }
-}
-
 #[derive(Default)]
-struct Vectors {
-    input: Vec<u8>,
-    answers: String,
+struct Asked {
+    words: Vectors,
     counts: [usize; 5],
 }
 
-impl Vectors {
+impl Asked {
     fn ask(&mut self, kind: u64, arguments: &[f64]) {
         self.counts[kind as usize] += 1;
-        let mut words = vec![kind];
-        words.extend(arguments.iter().map(|x| x.to_bits()));
-        words.resize(19, 0);
-        for w in words {
-            self.input.extend(w.to_le_bytes());
-        }
-    }
-
-    fn word(&mut self, w: u64) {
-        self.answers += &format!("{w:016x}\n");
-    }
-
-    fn float(&mut self, x: f64) {
-        self.word(if x.is_nan() { 0x7ff8_0000_0000_0000 } else { x.to_bits() });
+        let arguments: Vec<u64> = arguments.iter().map(|x| x.to_bits()).collect();
+        self.words.ask(&[vec![kind], arguments].concat(), 19);
     }
 
     fn solved(&mut self, h: Option<Homography>, refusal: u64) {
-        self.word(if h.is_some() { 0 } else { refusal });
+        self.words.word(if h.is_some() { 0 } else { refusal });
         for x in h.unwrap_or(Homography::identity()).m.concat() {
-            self.float(x);
+            self.words.float(x);
         }
     }
 
@@ -81,20 +43,20 @@ impl Vectors {
     fn apply(&mut self, m: &Mat3, p: [f64; 2]) {
         self.ask(2, &[m.concat(), p.to_vec()].concat());
         for x in Homography::from_mat(*m).apply(p) {
-            self.float(x);
+            self.words.float(x);
         }
     }
 
     fn product(&mut self, a: &Mat3, b: &Mat3) {
         self.ask(3, &[a.concat(), b.concat()].concat());
         for x in mat3_mul(a, b).concat() {
-            self.float(x);
+            self.words.float(x);
         }
     }
 
     fn error(&mut self, a: &Quad, b: &Quad) {
         self.ask(4, &[a.concat(), b.concat()].concat());
-        self.float(rms_error(a, b));
+        self.words.float(rms_error(a, b));
     }
 }
 
@@ -151,7 +113,7 @@ fn spoil_quad(r: &mut Random, q: &mut Quad) {
     spoil(r, p);
 }
 
-fn points(v: &mut Vectors, r: &mut Random) {
+fn points(v: &mut Asked, r: &mut Random) {
     let square: Quad = [[0.0, 0.0], [1.0, 0.0], [1.0, 1.0], [0.0, 1.0]];
     let zero: Quad = [[0.0; 2]; 4];
     v.from_points(&zero, &zero);
@@ -217,7 +179,7 @@ fn points(v: &mut Vectors, r: &mut Random) {
     }
 }
 
-fn inverses(v: &mut Vectors, r: &mut Random) {
+fn inverses(v: &mut Asked, r: &mut Random) {
     v.inverse(&[[0.0; 3]; 3]);
     v.inverse(&Homography::identity().m);
     v.inverse(&[[1.0, 2.0, 3.0], [4.0, 5.0, 6.0], [7.0, 8.0, 9.0]]);
@@ -242,7 +204,7 @@ fn inverses(v: &mut Vectors, r: &mut Random) {
     }
 }
 
-fn applied(v: &mut Vectors, r: &mut Random) {
+fn applied(v: &mut Asked, r: &mut Random) {
     v.apply(&[[0.0; 3]; 3], [3.0, 4.0]);
     v.apply(&[[f64::NAN; 3]; 3], [3.0, 4.0]);
     for _ in 0..40 {
@@ -251,7 +213,9 @@ fn applied(v: &mut Vectors, r: &mut Random) {
         v.apply(&m, p);
     }
     // w at 0 and around 1e-12 of either sign
-    for w in [0.0, -0.0, 1e-12, -1e-12, 9.999999999999999e-13, -9.999999999999999e-13, 1.0000000000000002e-12, -5e-324, f64::NAN, f64::INFINITY] {
+    for w in
+        [0.0, -0.0, 1e-12, -1e-12, 9.999999999999999e-13, -9.999999999999999e-13, 1.0000000000000002e-12, -5e-324, f64::NAN, f64::INFINITY]
+    {
         v.apply(&[[1.0, 2.0, 3.0], [4.0, 5.0, -6.0], [0.0, 0.0, w]], [0.5, -0.25]);
     }
     for n in 0..40 {
@@ -269,7 +233,7 @@ fn applied(v: &mut Vectors, r: &mut Random) {
     }
 }
 
-fn products(v: &mut Vectors, r: &mut Random) {
+fn products(v: &mut Asked, r: &mut Random) {
     let m = matrix(r, 100.0);
     v.product(&[[0.0; 3]; 3], &m);
     v.product(&m, &[[-0.0; 3]; 3]);
@@ -289,7 +253,7 @@ fn products(v: &mut Vectors, r: &mut Random) {
     }
 }
 
-fn errors(v: &mut Vectors, r: &mut Random) {
+fn errors(v: &mut Asked, r: &mut Random) {
     let q = quad(r, 10.0);
     v.error(&q, &q);
     for n in 0..60 {
@@ -306,15 +270,13 @@ fn errors(v: &mut Vectors, r: &mut Random) {
 }
 
 fn main() {
-    let mut v = Vectors::default();
+    let mut v = Asked::default();
     let mut r = Random(6);
     points(&mut v, &mut r);
     inverses(&mut v, &mut r);
     applied(&mut v, &mut r);
     products(&mut v, &mut r);
     errors(&mut v, &mut r);
-    let folder = "../../crates/homography_vectors";
-    fs::write(format!("{folder}/stdin"), &v.input).unwrap();
-    fs::write(format!("{folder}/stdout"), &v.answers).unwrap();
+    v.words.write("homography_vectors");
     println!("from_points, inverse, apply, mat3_mul, rms_error: {:?}", v.counts);
 }

@@ -5,8 +5,7 @@
 // writes stdin and stdout of ../../crates/marker_examples.
 use lpcore::frame::FrameSpec;
 use lpcore::geometry::{
-    frame_spec, margin_for, marker_centers, marker_size, quiet_zone, stamp_fiducials,
-    MARKER_MAX_PX, MARKER_MIN_PX, MARKER_UNITS,
+    frame_spec, margin_for, marker_centers, marker_size, quiet_zone, stamp_fiducials, MARKER_MAX_PX, MARKER_MIN_PX, MARKER_UNITS,
 };
 use lpcore::image::RgbImage;
 use lpcore::palette::{BLACK, WHITE};
@@ -37,15 +36,7 @@ impl Out {
 
     fn constants(&mut self) {
         self.record([5, 0, 0, 0, 0, 0, 0, 0, 0]);
-        write!(
-            self.lines,
-            "{} {} {} {}",
-            FrameSpec::CALIB_ROWS,
-            FrameSpec::HEADER_ROWS,
-            MARKER_MIN_PX,
-            MARKER_MAX_PX
-        )
-        .unwrap();
+        write!(self.lines, "{} {} {} {}", FrameSpec::CALIB_ROWS, FrameSpec::HEADER_ROWS, MARKER_MIN_PX, MARKER_MAX_PX).unwrap();
         for c in BLACK.into_iter().chain(WHITE) {
             write!(self.lines, " {c}").unwrap();
         }
@@ -55,14 +46,7 @@ impl Out {
     fn sizes(&mut self, cell: usize) {
         self.record([0, 0, 0, 0, 0, 0, cell, 0, 0]);
         if (1..=512).contains(&cell) {
-            writeln!(
-                self.lines,
-                "{} {} {}",
-                marker_size(cell),
-                quiet_zone(cell),
-                margin_for(cell)
-            )
-            .unwrap();
+            writeln!(self.lines, "{} {} {}", marker_size(cell), quiet_zone(cell), margin_for(cell)).unwrap();
         } else {
             writeln!(self.lines, "refused 1 refused 1 refused 1").unwrap();
         }
@@ -74,17 +58,8 @@ impl Out {
         for wide in [false, true] {
             let sep = if wide { "\n" } else { " " };
             if ok {
-                let f = if wide {
-                    frame_spec(width, height, cell)
-                } else {
-                    FrameSpec::new(width, height, cell)
-                };
-                write!(
-                    self.lines,
-                    "{} {} {} {}{sep}",
-                    f.width, f.height, f.cell, f.margin
-                )
-                .unwrap();
+                let f = if wide { frame_spec(width, height, cell) } else { FrameSpec::new(width, height, cell) };
+                write!(self.lines, "{} {} {} {}{sep}", f.width, f.height, f.cell, f.margin).unwrap();
             } else {
                 write!(self.lines, "refused 1{sep}").unwrap();
             }
@@ -120,11 +95,7 @@ impl Out {
     // bytes and row y of it: # dark, . light, + neither.
     fn stamp(&mut self, w: usize, h: usize, len: usize, f: FrameSpec, y: usize) {
         self.record([4, w, h, len, f.width, f.height, f.cell, f.margin, y]);
-        let mut img = RgbImage {
-            w,
-            h,
-            data: (0..len).map(|i| ((i % 251 * 31 + 7) % 251) as u8).collect(),
-        };
+        let mut img = RgbImage { w, h, data: (0..len).map(|i| ((i % 251 * 31 + 7) % 251) as u8).collect() };
         let said = if !held(&f) {
             "refused 1"
         } else if !(side(w) && side(h) && len == 3 * w * h) {
@@ -134,10 +105,7 @@ impl Out {
         } else {
             "refused 5"
         };
-        let sum = img
-            .data
-            .iter()
-            .fold(0u64, |s, b| (s * 257 + *b as u64 + 1) % 4294967291);
+        let sum = img.data.iter().fold(0u64, |s, b| (s * 257 + *b as u64 + 1) % 4294967291);
         writeln!(self.lines, "{said} {sum}").unwrap();
         if y < MOST && said == "accepted" {
             for x in 0..w {
@@ -154,12 +122,7 @@ impl Out {
 }
 
 fn frame(width: usize, height: usize, cell: usize, margin: usize) -> FrameSpec {
-    FrameSpec {
-        width,
-        height,
-        cell,
-        margin,
-    }
+    FrameSpec { width, height, cell, margin }
 }
 
 // Frames at each limit and one past it.
@@ -184,10 +147,7 @@ fn limits() -> Vec<FrameSpec> {
 }
 
 fn main() {
-    let mut out = Out {
-        records: vec![],
-        lines: String::new(),
-    };
+    let mut out = Out { records: vec![], lines: String::new() };
     out.constants();
     for cell in (0..=513).chain([usize::MAX]) {
         out.sizes(cell);
@@ -226,12 +186,7 @@ fn main() {
         out.grid(f);
         out.centers(f);
     }
-    for f in [
-        frame(100, 100, 10, 50),
-        frame(100, 100, 10, 51),
-        frame(101, 121, 10, 50),
-        frame(100, 99, 7, 3),
-    ] {
+    for f in [frame(100, 100, 10, 50), frame(100, 100, 10, 51), frame(101, 121, 10, 50), frame(100, 99, 7, 3)] {
         out.grid(f);
     }
     let none = MOST;
@@ -268,7 +223,5 @@ fn main() {
     for f in limits() {
         out.stamp(30, 40, 3600, f, none);
     }
-    let here = concat!(env!("CARGO_MANIFEST_DIR"), "/../../crates/marker_examples");
-    std::fs::write(format!("{here}/stdin"), &out.records).unwrap();
-    std::fs::write(format!("{here}/stdout"), &out.lines).unwrap();
+    vectors::write("marker_examples", &out.records, &out.lines);
 }

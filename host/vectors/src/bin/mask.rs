@@ -7,23 +7,10 @@
 use lpcorepub::frame::FrameSpec;
 use lpcorepub::geometry::{adaptive_black_mask, luma_plane, marker_layout};
 use lpcorepub::image::RgbImage;
-use std::fs;
+use vectors::Random;
 
 const W: usize = 40;
 const H: usize = 36;
-
-struct Random(u64);
-
-impl Random {
-    // splitmix64
-    fn next(&mut self) -> u64 {
-        self.0 = self.0.wrapping_add(0x9e37_79b9_7f4a_7c15);
-        let mut z = self.0;
-        z = (z ^ (z >> 30)).wrapping_mul(0xbf58_476d_1ce4_e5b9);
-        z = (z ^ (z >> 27)).wrapping_mul(0x94d0_49bb_1331_11eb);
-        z ^ (z >> 31)
-    }
-}
 
 // A slope of light from corner to corner, dark rings on it, a band at either end of the range, and noise.
 fn picture() -> RgbImage {
@@ -85,9 +72,7 @@ fn main() {
     }
     output += "77777777\n";
     let dark = mask.iter().filter(|d| **d).count();
-    let there = concat!(env!("CARGO_MANIFEST_DIR"), "/../../crates/mask_examples");
-    fs::write(format!("{there}/stdin"), &img.data).unwrap();
-    fs::write(format!("{there}/stdout"), &output).unwrap();
+    vectors::write("mask_examples", &img.data, &output);
     println!("radius {radius}, {dark} of {} dark", mask.len());
     for wrong in [radius - 1, radius + 1] {
         let other = adaptive_black_mask(&luma, W, H, wrong, 8.0);

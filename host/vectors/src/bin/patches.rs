@@ -2,7 +2,6 @@
 //!   CARGO_TARGET_DIR=../target cargo run --release --offline --bin patches
 //! writes crates/patches/{stdin,stdout} and crates/patch_examples/{stdin,stdout}. Patch lists are those of the original's
 //! `label_blobs`; what is refused, and the layout of the text, are document 01's.
-use std::fs;
 
 const REFUSED: &str = "refused 2\n";
 
@@ -43,9 +42,7 @@ fn listing(m: &Mask) -> String {
 fn spiral(n: usize) -> Mask {
     let mut dark = vec![false; n * n];
     let (mut x, mut y, mut dx, mut dy) = (0i64, 0i64, 1i64, 0i64);
-    let at = |dark: &Vec<bool>, x: i64, y: i64| {
-        x >= 0 && y >= 0 && x < n as i64 && y < n as i64 && dark[y as usize * n + x as usize]
-    };
+    let at = |dark: &Vec<bool>, x: i64, y: i64| x >= 0 && y >= 0 && x < n as i64 && y < n as i64 && dark[y as usize * n + x as usize];
     let inside = |x: i64, y: i64| x >= 0 && y >= 0 && x < n as i64 && y < n as i64;
     loop {
         dark[y as usize * n + x as usize] = true;
@@ -150,9 +147,7 @@ fn main() {
         cases.push((t, REFUSED.to_string()));
     }
 
-    let root = "../../crates";
-    fs::write(format!("{root}/patches/stdin"), &cases[0].0).unwrap();
-    fs::write(format!("{root}/patches/stdout"), &cases[0].1).unwrap();
+    vectors::write("patches", &cases[0].0, &cases[0].1);
     let mut input = Vec::new();
     let mut output = String::new();
     for (t, s) in &cases {
@@ -161,7 +156,6 @@ fn main() {
         output += s;
     }
     assert!(input.len() <= 65536);
-    fs::write(format!("{root}/patch_examples/stdin"), &input).unwrap();
-    fs::write(format!("{root}/patch_examples/stdout"), &output).unwrap();
+    vectors::write("patch_examples", &input, &output);
     println!("{} inputs, {} bytes; {} bytes of output", cases.len(), input.len(), output.len());
 }

@@ -6,65 +6,30 @@
 // for new 2 where a side is outside its limit (the original has none), and else 0, k, cx, cy, norm. Every NaN is
 // written as one.
 use lpcore::geometry::Radial;
-use std::fs;
-
-struct Random(u64);
-
-impl Random {
-    // splitmix64
-    fn next(&mut self) -> u64 {
-        self.0 = self.0.wrapping_add(0x9e37_79b9_7f4a_7c15);
-        let mut z = self.0;
-        z = (z ^ (z >> 30)).wrapping_mul(0xbf58_476d_1ce4_e5b9);
-        z = (z ^ (z >> 27)).wrapping_mul(0x94d0_49bb_1331_11eb);
-        z ^ (z >> 31)
-    }
-
-    fn between(&mut self, lo: f64, hi: f64) -> f64 {
-        lo + (hi - lo) * ((self.next() >> 11) as f64 / (1u64 << 53) as f64)
-    }
-
-    fn below(&mut self, n: u64) -> usize {
-        (self.next() % n) as usize
-    }
-}
+use vectors::{Random, Vectors};
 
 #[derive(Default)]
-struct Vectors {
-    input: Vec<u8>,
-    answers: String,
+struct Asked {
+    words: Vectors,
     counts: [usize; 3],
 }
 
-impl Vectors {
+impl Asked {
     fn ask(&mut self, kind: u64, arguments: &[u64]) {
         self.counts[kind as usize] += 1;
-        let mut words = vec![kind];
-        words.extend(arguments);
-        words.resize(7, 0);
-        for w in words {
-            self.input.extend(w.to_le_bytes());
-        }
-    }
-
-    fn word(&mut self, w: u64) {
-        self.answers += &format!("{w:016x}\n");
-    }
-
-    fn float(&mut self, x: f64) {
-        self.word(if x.is_nan() { 0x7ff8_0000_0000_0000 } else { x.to_bits() });
+        self.words.ask(&[&[kind], arguments].concat(), 7);
     }
 
     fn new(&mut self, w: usize, h: usize, k: f64) {
         self.ask(0, &[w as u64, h as u64, k.to_bits()]);
         if (1..=4096).contains(&w) && (1..=4096).contains(&h) {
             let l = Radial::new(w, h, k);
-            self.word(0);
+            self.words.word(0);
             for x in [l.k, l.cx, l.cy, l.norm] {
-                self.float(x);
+                self.words.float(x);
             }
         } else {
-            self.word(2);
+            self.words.word(2);
         }
     }
 
@@ -72,11 +37,11 @@ impl Vectors {
         let arguments = [l.k, l.cx, l.cy, l.norm, p[0], p[1]].map(f64::to_bits);
         self.ask(1, &arguments);
         for x in l.distort(p) {
-            self.float(x);
+            self.words.float(x);
         }
         self.ask(2, &arguments);
         for x in l.undistort(p) {
-            self.float(x);
+            self.words.float(x);
         }
     }
 }
@@ -99,7 +64,7 @@ const ODD: [f64; 14] = [
 ];
 
 fn main() {
-    let mut v = Vectors::default();
+    let mut v = Asked::default();
     let mut r = Random(11);
     for (w, h) in [(60, 80), (1, 1), (1, 2), (2, 2), (1, 4096), (4096, 1), (4096, 4096), (1280, 720), (123, 77)] {
         v.new(w, h, -0.125);
@@ -147,8 +112,6 @@ fn main() {
         }
         v.both(Radial { k: a[0], cx: a[1], cy: a[2], norm: a[3] }, [a[4], a[5]]);
     }
-    let folder = "../../crates/radial_vectors";
-    fs::write(format!("{folder}/stdin"), &v.input).unwrap();
-    fs::write(format!("{folder}/stdout"), &v.answers).unwrap();
+    v.words.write("radial_vectors");
     println!("new, distort, undistort: {:?}", v.counts);
 }

@@ -6,28 +6,10 @@
 // 255 side by side at (1.0, 0.5), and four captures that document 01 refuses by 2. Then a line for each place.
 use lpcore::geometry::bilinear;
 use lpcore::image::RgbImage;
-use std::fs;
+use vectors::Random;
 
 const W: usize = 5;
 const H: usize = 4;
-
-struct Random(u64);
-
-impl Random {
-    // splitmix64
-    fn next(&mut self) -> u64 {
-        self.0 = self.0.wrapping_add(0x9e37_79b9_7f4a_7c15);
-        let mut z = self.0;
-        z = (z ^ (z >> 30)).wrapping_mul(0xbf58_476d_1ce4_e5b9);
-        z = (z ^ (z >> 27)).wrapping_mul(0x94d0_49bb_1331_11eb);
-        z ^ (z >> 31)
-    }
-
-    // from lo up to hi
-    fn between(&mut self, lo: f64, hi: f64) -> f64 {
-        lo + (self.next() >> 11) as f64 / (1u64 << 53) as f64 * (hi - lo)
-    }
-}
 
 fn line(c: [u8; 3]) -> String {
     format!("{:02x}{:02x}{:02x}\n", c[0], c[1], c[2])
@@ -117,8 +99,6 @@ fn main() {
         input.extend(y.to_bits().to_le_bytes());
         output += &line(bilinear(&img, x, y));
     }
-    let there = concat!(env!("CARGO_MANIFEST_DIR"), "/../../crates/sampling_examples");
-    fs::write(format!("{there}/stdin"), input).unwrap();
-    fs::write(format!("{there}/stdout"), &output).unwrap();
+    vectors::write("sampling_examples", &input, &output);
     println!("{} lines", output.lines().count());
 }
