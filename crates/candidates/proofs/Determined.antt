@@ -1,6 +1,6 @@
 -- What a look finds is decided by the capture and the frame: "no answer depends on prior work-area contents". Assumes nothing.
 use Prim.Native.Nat.{ℕ, _<_}
-use mathlib.Core.Path.{_≡_, sym, subst}
+use mathlib.Core.Path.{_≡_, sym, subst, _∙_}
 use Rattle.frame.specs.Image.{Image}
 use Rattle.frame.specs.declared.FrameSpec.{FrameSpec}
 use Rattle.sampling.specs.Luma.{lumaPlane}
@@ -14,6 +14,9 @@ use Rattle.candidates.proofs.Unique.{list-number, list-records, candida
 module _ (img : Image) (f : FrameSpec) (a b a′ b′ : Areas) (n k deep n′ k′ deep′ : ℕ) (h : Looked img f a b n k deep) (h′ : Looked img f a′ b′ n′ k′ deep′) where
   pub same-patches : n ≡ n′
   same-patches = list-number (maskPlane img f) (img .w) (h .patches) (h′ .patches)
+
+  pub same-waiting : deep ≡ deep′
+  same-waiting = h .waited-is ∙ sym (h′ .waited-is)
 
   pub same-patch : (j : ℕ) → j < n → patchAt (b .patches) j ≡ patchAt (b′ .patches) j
   same-patch j l = list-records (maskPlane img f) (img .w) (h .patches) (h′ .patches) j l

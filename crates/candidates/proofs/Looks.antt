@@ -197,6 +197,7 @@ module _ (img : Image) (f : FrameSpec) (a : Areas) (R : Ready img f a) where
         patches = L .records;
         candidates = C;
         waited = L .waited;
+        waited-is = L .most-is;
         waiting-long = L .waiting-long;
         waiting-rest = L .waiting-rest;
       }

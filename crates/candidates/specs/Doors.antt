@@ -9,6 +9,7 @@ use Rattle.frame.specs.Refusals.{verdictOf, lowestOf}
 use Rattle.sampling.specs.Luma.{lumaAt, lumaPlane}
 use Rattle.mask.specs.Mask.{integralEntry, maskEntry, maskPlane}
 use Rattle.blobs.specs.Patches.{patchAt, Waited, PatchList}
+use Rattle.blobs.specs.Stack.{mostWaiting}
 use Rattle.candidates.specs.Ring.{CandidateList}
 use Rattle.candidates.specs.Areas.{Areas, pixels, integralLength, lookTests}
 use Rattle.frame.specs.declared.FrameSpec.{FrameSpec}
@@ -31,6 +32,8 @@ pub record Looked (img : Image) (f : FrameSpec) (a b : Areas) (n k deep : ℕ) :
       CandidateList (maskPlane img f) (lumaPlane img) (img .w) (img .h) (patchAt (b .patches)) n (a .candidates) (a .«blob_index») (b .candidates) (b .«blob_index») k
   -- "the highest number of pixels waiting; free, but 0 without dark pixels and otherwise from 1 to the largest area"
   pub waited : Waited (b .patches) n deep
+  -- .. and "no answer depends on prior work-area contents": it is a function of the mask
+  pub waited-is : deep ≡ mostWaiting (maskPlane img f) (img .w)
   -- "Free: .. the waiting list"; past its length it is unchanged
   pub waiting-long : length (b .waiting) ≡ length (a .waiting)
   pub waiting-rest : drop (pixels img) (b .waiting) ≡ drop (pixels img) (a .waiting)

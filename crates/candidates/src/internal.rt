@@ -8,8 +8,6 @@ ghost use lib.ListN.{length};
 ghost use Rattle.candidates.specs.Ring.{tallied, arms, shareOf, ringScore, shaped, centre, sizeOf, ringOf, CandidateList, candidateAt, centerAt};
 ghost use Rattle.candidates.specs.Areas.{areas, smallest, shorter, testsBy};
 ghost use Rattle.candidates.specs.Doors.{Looked};
-ghost use Rattle.mask.specs.Mask.{maskPlane};
-ghost use Rattle.blobs.specs.Stack.{mostWaiting};
 ghost use Rattle.frame.specs.Image.{image};
 ghost use Rattle.frame.specs.Refusals.{lowestOf};
 ghost use Rattle.candidates.specs.Bounds.{PlanesHeld, BlobHeld, Sound, Probing, storedRecord, storedPlace, storedCount, Storable, Listable, Ready};
@@ -411,7 +409,7 @@ pub fn look(
     ensures { λ r. ⌜ Looked (image w h (now (capture .entry))) frame
         (areas (now (luma .entry)) (now (integral .entry)) (now (mask .entry)) (now (seen .entry)) (now (waiting .entry)) (now (patches .entry)) (now (candidates .entry)) (now («blob_index» .entry)))
         (areas (now (luma .exit)) (now (integral .exit)) (now (mask .exit)) (now (seen .exit)) (now (waiting .exit)) (now (patches .exit)) (now (candidates .exit)) (now («blob_index» .exit)))
-        (r .patches) (r .candidates) (r .waiting) ⌝ ∗ ⌜ r .waiting ≡ mostWaiting (maskPlane (image w h (now (capture .entry))) frame) w ⌝ }
+        (r .patches) (r .candidates) (r .waiting) ⌝ }
 {
     planes(capture, w, h, frame, luma, integral, mask);
     let n = w * h;

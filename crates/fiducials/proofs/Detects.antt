@@ -15,7 +15,6 @@ use Rattle.frame.specs.declared.Point.{Point}
 use Rattle.frame.proofs.Lowest.{none-tested}
 use Rattle.mask.specs.Mask.{maskPlane}
 use Rattle.blobs.specs.Patches.{patchAt}
-use Rattle.blobs.specs.Stack.{mostWaiting}
 use Rattle.markers.specs.Layout.{noLayout}
 use Rattle.candidates.specs.Areas.{Areas, smallest, shorter, testsBy, lookTests, lengthsOf}
 use Rattle.candidates.specs.Bounds.{Ready}
@@ -117,10 +116,10 @@ module _ (img : Image) (f : FrameSpec) (a b : Areas) (n k deep : ℕ) (R : Ready
     quad-marked : MarkedBy img f (quadAt at (chosen TL) (chosen TR) (chosen BR) (chosen BL))
     quad-marked = subst (λ z. MarkedBy img f z) (sym (quad-of at k)) (marked-by img f (R .capture .w-most) (R .capture .h-most) (L .patches) (L .candidates) four)
 
-  pub detecting : (r : Corners) → r ≡ cornersOf (b .candidates) (b .«blob_index») (img .w) (img .h) k → deep ≡ mostWaiting (maskPlane img f) (img .w)
+  pub detecting : (r : Corners) → r ≡ cornersOf (b .candidates) (b .«blob_index») (img .w) (img .h) k
       → Detecting img f a b (r .number) n k deep (r .places) (r .quad)
   unfolding cornersOf
-  detecting r e d =
+  detecting r e =
       let N = cornerNumber (img .w) (img .h) at k in
       let Q = quadAt at (chosen TL) (chosen TR) (chosen BR) (chosen BL) in
       let S = placesAt (b .«blob_index») (chosen TL) (chosen TR) (chosen BR) (chosen BL) in
@@ -129,7 +128,6 @@ module _ (img : Image) (f : FrameSpec) (a b : Areas) (n k deep : ℕ) (R : Ready
       let es : r .places ≡ cornersAs N Q S .places = ap (λ (z : Corners). z .places) e in
       record {
         looked = L;
-        deep-is = d;
         lowest = λ tests no. subst (λ z. Lowest (Undetected img f tests) z) (sym en)
             (corner-lowest img f (R .capture .w-most) (R .capture .h-most) (L .patches) (L .candidates) tests no);
         from-seven = λ o. subst (λ z. 7 ≤ z) (sym en) (number-from-7 (img .w) (img .h) at k (subst (λ z. 1 ≤ z) en o));

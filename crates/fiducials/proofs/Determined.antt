@@ -60,6 +60,7 @@ module _ (img : Image) (f : FrameSpec) (a b a′ b′ : Areas) (v v′ : Verdict
   pub same-quad : q ≡ q′
   same-quad = ⊎-elim found-quad (λ o. h .none o .0 ∙ sym (h′ .none (subst (λ z. 1 ≤ z) same-number o) .0)) (zero-or (h .number))
 
-  -- .. and the numbers of patches and candidates, where the picture is looked at
-  pub same-counts : Looked img f a b n k deep → Looked img f a′ b′ n′ k′ deep′ → (n ≡ n′) × (k ≡ k′)
-  same-counts l l′ = (look.same-patches img f a b a′ b′ n k deep n′ k′ deep′ l l′, look.same-candidates img f a b a′ b′ n k deep n′ k′ deep′ l l′)
+  -- .. and the numbers of patches, candidates and waiting pixels, where the picture is looked at
+  pub same-counts : Looked img f a b n k deep → Looked img f a′ b′ n′ k′ deep′ → (n ≡ n′) × (k ≡ k′) × (deep ≡ deep′)
+  same-counts l l′ =
+      (look.same-patches img f a b a′ b′ n k deep n′ k′ deep′ l l′, look.same-candidates img f a b a′ b′ n k deep n′ k′ deep′ l l′, look.same-waiting img f a b a′ b′ n k deep n′ k′ deep′ l l′)

@@ -7,9 +7,7 @@ use lib.Dec.{T}
 use lib.ListN.{getD}
 use Rattle.frame.specs.Image.{Image}
 use Rattle.frame.specs.Refusals.{verdictOf, Lowest, Check, Tested}
-use Rattle.mask.specs.Mask.{maskPlane}
 use Rattle.blobs.specs.Patches.{patchAt}
-use Rattle.blobs.specs.Stack.{mostWaiting}
 use Rattle.candidates.specs.Ring.{centre}
 use Rattle.candidates.specs.Areas.{Areas, lookTests}
 use Rattle.candidates.specs.Doors.{Looked}
@@ -95,7 +93,6 @@ pub record Cornered (img : Image) (f : FrameSpec) (l firsts : List ℕ) (n : ℕ
 -- ---- what a detection leaves, where no test refuses it
 pub record Detecting (img : Image) (f : FrameSpec) (a b : Areas) (number n k deep : ℕ) (s : Places) (q : Quad) : Type 0 where
   pub looked : Looked img f a b n k deep
-  pub deep-is : deep ≡ mostWaiting (maskPlane img f) (img .w)
   -- 7 to 9, or 0: the lowest number that applies, after any tests of which none holds
   pub lowest : (tests : List Check) → ((j : ℕ) → Tested j tests → ⊥) → Lowest (Undetected img f tests) number
   pub from-seven : 1 ≤ number → 7 ≤ number

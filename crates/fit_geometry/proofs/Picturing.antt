@@ -105,7 +105,6 @@ module _ (img : Image) (f : FrameSpec) (a b : Areas) (means : List Float) (d : F
       let most : d .number ≤ 9 = detection-most img f [] (λ j t. t) (d .number) (h .lowest [] (λ j t. t)) in
       record {
         looked = h .looked;
-        deep-is = h .deep-is;
         means-rest = (refl, refl);
         lowest = λ tests none. detection-lowest img f tests none (d .number) n (h .lowest tests none);
         from-seven = h .from-seven;
@@ -126,7 +125,6 @@ module _ (img : Image) (f : FrameSpec) (a b : Areas) (means : List Float) (d : F
         let c : d .quad ≡ centresAt (b .patches) (d .places) = h .centres z in
         record {
           looked = h .looked;
-          deep-is = h .deep-is;
           means-rest = rest;
           lowest = λ tests none. kept-lowest img f tests none (d .number) z (h .lowest tests none) (d .quad) (h .marked z) k;
           from-seven = λ x. absurd (omega arith);
@@ -145,7 +143,6 @@ module _ (img : Image) (f : FrameSpec) (a b : Areas) (means : List Float) (d : F
     fruitless-picture k =
         record {
           looked = h .looked;
-          deep-is = h .deep-is;
           means-rest = rest;
           lowest = λ tests none. fruitless-lowest img f tests none (d .number) z (h .lowest tests none) (d .quad) (h .marked z) k;
           from-seven = λ x. omega arith;

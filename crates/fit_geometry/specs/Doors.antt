@@ -9,8 +9,6 @@ use lib.Ieee.{Float}
 use Rattle.frame.specs.Image.{Image}
 use Rattle.frame.specs.Refusals.{verdictOf, Lowest, Check, check, Tested, frameOutside, captureWrong, captureSmall}
 use Rattle.markers.specs.Layout.{noLayout}
-use Rattle.mask.specs.Mask.{maskPlane}
-use Rattle.blobs.specs.Stack.{mostWaiting}
 use Rattle.candidates.specs.Areas.{Areas, lengthsOf, shorter, smallest}
 use Rattle.candidates.specs.Doors.{Looked}
 use Rattle.candidates.specs.declared.Lengths.{Lengths}
@@ -61,7 +59,6 @@ pictured d t =
 -- what a call leaves where no test refuses it: areas a, then b; its answer r
 pub record Picturing (img : Image) (f : FrameSpec) (a b : Areas) (means means′ : List Float) (r : Pictured) : Type 0 where
   pub looked : Looked img f a b (r .patches) (r .candidates) (r .waiting)
-  pub deep-is : r .waiting ≡ mostWaiting (maskPlane img f) (img .w)
   pub means-rest : MeansKept f means means′
   -- 7 to 10, or 0: the lowest number that applies, after any tests of which none holds
   pub lowest : (tests : List Check) → ((j : ℕ) → Tested j tests → ⊥) → Lowest (Unfitted img f tests) (r .number)

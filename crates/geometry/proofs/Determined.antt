@@ -111,7 +111,7 @@ module _ (img : Image) (f : FrameSpec) (a a′ b b′ : Lent) (r r′ : PictureF
     candidates-agree = look.same-candidates img f _ _ _ _ _ _ _ _ _ _ (s .looked) (s′ .looked)
 
     waiting-agree : r .waiting ≡ r′ .waiting
-    waiting-agree = s .deep-is ∙ sym (s′ .deep-is)
+    waiting-agree = look.same-waiting img f _ _ _ _ _ _ _ _ _ _ (s .looked) (s′ .looked)
 
   module _ (yes : h .number ≡ 0) where
     abbrev yes′ : h′ .number ≡ 0

@@ -121,7 +121,6 @@ module _ (img : Image) (f : FrameSpec) (a : Lent) where
     seeing =
         record {
           looked = h .looked;
-          deep-is = h .deep-is;
           means-rest = h .means-rest;
           corners = h .corners;
           best = h .best;

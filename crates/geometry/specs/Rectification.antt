@@ -11,8 +11,6 @@ use Rattle.frame.specs.Refusals.{verdictOf, Lowest, Check, check, frameOutside,
 use Rattle.frame.specs.declared.FrameSpec.{FrameSpec}
 use Rattle.frame.specs.declared.Quad.{Quad}
 use Rattle.markers.specs.Layout.{noLayout}
-use Rattle.mask.specs.Mask.{maskPlane}
-use Rattle.blobs.specs.Stack.{mostWaiting}
 use Rattle.candidates.specs.Areas.{Areas, lengthsOf, shorter, smallest}
 use Rattle.candidates.specs.Doors.{Looked}
 use Rattle.candidates.specs.declared.Lengths.{Lengths}
@@ -59,8 +57,6 @@ pub record Seen (img : Image) (f : FrameSpec) (a b : Lent) (r : PictureFit) (num
   -- "After an acceptance, and after a refusal by 7 or a higher number, the patch list starts with every patch once, in raster order, and their areas add
   -- up to the dark pixels."
   pub looked : Looked img f (a .areas) (b .areas) (r .patches) (r .candidates) (r .waiting)
-  -- the waiting maximum is free; this says that it does not depend on "prior work-area contents"
-  pub deep-is : r .waiting ≡ mostWaiting (maskPlane img f) (img .w)
   -- "Free: .. cell means"; past the sampled cells they are unchanged
   pub means-rest : MeansKept f (a .means) (b .means)
   -- "An accepted one names four different patches, one for each corner, each all the dark pixels joined edge to edge, each passing the ring rule. No other

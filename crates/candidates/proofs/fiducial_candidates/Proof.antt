@@ -55,7 +55,7 @@ returns-2 c =
     let e = sym (after c .before .before .before .before .before .before .before .before .before .before .refused .ensures) ∙ after c .before .before .before .before .before .before .before .before .before .if1 .left in
     record {
       given = verdict-accepted _ e;
-      accepted = λ z. after c .look .ensures .0;
+      accepted = λ z. after c .look .ensures;
       refused = λ z. absurd (omega (arith, e, z));
     }
 

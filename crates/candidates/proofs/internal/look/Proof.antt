@@ -124,8 +124,7 @@ returns : tie.Need-returns
 returns c =
     let l = label (list c) in
     let p = planes l in
-    let i = label-is l in
-    (looked _ _ _ (start p .pre) (p .planes .ensures) i (candidates-as (mask-is p) (luma-is p) (list c .list .ensures)), i .most-is)
+    looked _ _ _ (start p .pre) (p .planes .ensures) (label-is l) (candidates-as (mask-is p) (luma-is p) (list c .list .ensures))
 
 pub look-spec : {M : Type 1} → statement M
 look-spec =
