@@ -12,7 +12,9 @@ use Rattle.frame.specs.declared.Quad.{Quad}
 use Rattle.frame.specs.declared.Verdict.the-variants.{Accepted, Refused}
 use Rattle.homography.specs.declared.Homography.{Homography}
 use Rattle.homography.specs.declared.Solved.{Solved}
-use Rattle.homography.specs.Equations.{equations, solvable, solution, lastColumn, identity, hasHomography, homography, fromPoints}
+use Rattle.homography.specs.Arithmetic.{rounded}
+use Rattle.homography.specs.Elimination.{solvable, solution, lastColumn}
+use Rattle.homography.specs.Equations.{equations, homographyOver, identity, hasHomography, homography, fromPoints}
 use Rattle.homography.specs.Inner.{unknowns, withOne}
 use Rattle.homography.specs.Homography.{rowTimes, divisor, apply, productAt, adjugate, determinant, singular, quotients, inverse, apart, rmsError}
 
@@ -43,23 +45,23 @@ module _ (h : Homography) (c : List Float) (d : Float) (e : c ≡ adjugate (h .m
       ap found (g ∙ ap (quotients c) along ∙ ap (λ b. quotients b (determinant (h .m))) e)
       ∙ pick-no _ _ _ (ap (λ x. lt (absOf x) tiny) (sym along) ∙ t)
 
-one-behind : (a : List Float) → withOne (solution a) ≡ solution a ++ (f64 1 ∷ [])
+one-behind : (a : List Float) → withOne (solution rounded a) ≡ solution rounded a ++ (f64 1 ∷ [])
 unfolding withOne filled turns solution lastColumn table
 one-behind a = refl
 
 -- ok and t are what `solve8` gives for the equations
-module _ (src dst : Quad) (a t : List Float) (ok : Bool) (p : a ≡ equations src dst) (q : ok ≡ solvable a) where
+module _ (src dst : Quad) (a t : List Float) (ok : Bool) (p : a ≡ equations src dst) (q : ok ≡ solvable rounded a) where
   pub points-found : (m : List Float) → ok ≡ true → t ≡ unknowns a → m ≡ withOne t → found m ≡ fromPoints src dst
-  unfolding fromPoints hasHomography homography unknowns
+  unfolding fromPoints hasHomography homography homographyOver equations unknowns
   points-found m e s f =
-      let v : solvable (equations src dst) ≡ true = ap solvable (sym p) ∙ sym q ∙ e in
-      let u : unknowns (equations src dst) ≡ solution (equations src dst) = sym (pick-yes _ _ _ v) in
-      let w : m ≡ solution (equations src dst) ++ (f64 1 ∷ []) = f ∙ ap withOne (s ∙ ap unknowns p ∙ u) ∙ one-behind (equations src dst) in
+      let v : solvable rounded (equations src dst) ≡ true = ap (solvable rounded) (sym p) ∙ sym q ∙ e in
+      let u : unknowns (equations src dst) ≡ solution rounded (equations src dst) = sym (pick-yes _ _ _ v) in
+      let w : m ≡ solution rounded (equations src dst) ++ (f64 1 ∷ []) = f ∙ ap withOne (s ∙ ap unknowns p ∙ u) ∙ one-behind (equations src dst) in
       ap found w ∙ pick-yes _ _ _ v
 
   pub points-refused : ok ≡ false → record { verdict = Refused 10; h = identity } ≡ fromPoints src dst
   unfolding fromPoints hasHomography
-  points-refused e = pick-no _ _ _ (ap solvable (sym p) ∙ sym q ∙ e)
+  points-refused e = pick-no _ _ _ (ap (solvable rounded) (sym p) ∙ sym q ∙ e)
 
 pub rms-is :
     (a b : Quad) (s t u v r : Float)

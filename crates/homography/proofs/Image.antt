@@ -1,39 +1,26 @@
--- The rows that `from_points` writes are the exact rows, where the coordinates are whole and not too large. Assumes nothing.
-use mathlib.Core.Path.{_≡_, refl, sym, ap, subst, _∙_}
-use mathlib.Core.Bool.{Bool, true, false, not}
-use Prim.Native.Nat.{ℕ, zero, suc, _*_, _^_, _≤_, _<_}
-use native.Mathlib.Nat.{mul-comm, mul-one, mul-right-comm, mul-mul-mul-comm, mul-le-mul, mul-pos, eq-of-mul-eq-mul-right, lt-of-le-of-lt, lt-of-lt-of-le}
+-- The value of an f64 is the library's, and the entries of the float equations have the values of the exact ones, where the
+-- coordinates are whole and not too large. Assumes nothing.
+use mathlib.Core.Path.{_≡_, sym, ap, ap₂, subst, _∙_}
+use mathlib.Core.Bool.{Bool, true, false, not, true≢false, false≢true}
+use mathlib.Core.List.{List, [], _∷_, _++_, map}
+use Prim.Native.Nat.{ℕ, _*_, _^_, _≤_, _<_}
+use native.Mathlib.Nat.{mul-one, mul-right-comm, mul-mul-mul-comm, mul-le-mul, mul-pos, eq-of-mul-eq-mul-right, lt-of-le-of-lt, lt-of-lt-of-le}
+use native.Mathlib.Omega.{arith}
 use lib.Dec.{lit<, lit≤}
 use lib.Pow.{pow-mono, shl-lt}
-use lib.IntN.{ℤ, pos, negℤ, natAbs, _*ℤ_, negℤ-negℤ, pos-*ℤ-pos, *ℤ-comm}
 use lib.Ieee.{Float, nan, inf, fin, binary64, up, down, unlike, neg, mul, round, ofInt}
 use lib.Ieee.Exact.{HasValue, round-exact}
 use lib.Ieee.Back.{round-whole}
 use lib.Ieee.Fits.{down-pos}
 use Rattle.float.specs.Floats.{_⊗_, f64}
-use Rattle.homography.specs.Transform.{signed, Whole, RowsAre}
-use Rattle.homography.proofs.Transform.{neg-mul}
+use Rattle.frame.specs.declared.Point.{Point}
+use Rattle.homography.specs.Arithmetic.{Arithmetic}
+use Rattle.homography.specs.Equations.{rowU, rowV, rowsOver, rowX, rowY, equations}
+use Rattle.homography.specs.Fractions.{Fraction}
+use Rattle.homography.specs.Rationals.{rational, rational-same, ℚ, -ℚ_, _*ℚ_, 0ℚ, 1ℚ, exact, Finite, AllFinite, signed, valueOf, ValueIs}
+use Rattle.homography.specs.Transform.{Whole, WholePoint, EquationsAre}
 
--- ---- signs
-signed-neg : (s : Bool) (n : ℕ) → negℤ (signed s n) ≡ signed (not s) n
-signed-neg false n = refl
-signed-neg true n = negℤ-negℤ (pos n)
-
-signed-mul : (s t : Bool) (a b : ℕ) → signed s a *ℤ signed t b ≡ signed (unlike s t) (a * b)
-signed-mul false false a b = pos-*ℤ-pos a b
-signed-mul true false a b = neg-mul (pos a) (pos b) ∙ ap negℤ (pos-*ℤ-pos a b)
-signed-mul false true a b = *ℤ-comm (pos a) (negℤ (pos b)) ∙ neg-mul (pos b) (pos a) ∙ ap negℤ (pos-*ℤ-pos b a ∙ ap pos (mul-comm b a))
-signed-mul true true a b =
-    neg-mul (pos a) (negℤ (pos b))
-    ∙ ap negℤ (*ℤ-comm (pos a) (negℤ (pos b)) ∙ neg-mul (pos b) (pos a) ∙ ap negℤ (pos-*ℤ-pos b a ∙ ap pos (mul-comm b a)))
-    ∙ negℤ-negℤ (pos (a * b))
-
-size-of : (s : Bool) (n : ℕ) → natAbs (signed s n) ≡ n
-size-of false n = refl
-size-of true zero = refl
-size-of true (suc n) = refl
-
--- ---- values
+-- ---- values of floats
 lowest-terms : (x : Float) (s : Bool) (c k : ℕ) → 0 < k → HasValue x s (c * k) k → HasValue x s c 1
 lowest-terms nan s c k h v = v
 lowest-terms (inf t) s c k h v = v
@@ -67,37 +54,121 @@ neg-value nan s a v = v
 neg-value (inf t) s a v = v
 neg-value (fin t m e) s a v = (ap not (v .0), v .1)
 
--- ---- whole floats
-whole-number : (n : ℕ) → n ≤ 2 ^ 53 → Whole (f64 n) (pos n)
-unfolding ofInt
-whole-number n h = record { sign = false; size = n; value = round-whole binary64 false n h; is = refl }
+-- ---- .. as rationals
+pub value-is : ValueIs
+unfolding valueOf
+value-is nan s a c h v = absurd v
+value-is (inf t) s a c h v = absurd v
+value-is (fin false m e) false a c h v = rational-same (omega (arith, v .1))
+value-is (fin false m e) true a c h v = absurd (false≢true (v .0))
+value-is (fin true m e) false a c h v = absurd (true≢false (v .0))
+value-is (fin true m e) true a c h v = rational-same (omega (arith, v .1))
 
-whole-neg : (x : Float) (z : ℤ) → Whole x z → Whole (neg x) (negℤ z)
-whole-neg x z w = record { sign = not (w .sign); size = w .size; value = neg-value x (w .sign) (w .size) (w .value); is = ap negℤ (w .is) ∙ signed-neg (w .sign) (w .size) }
+-- a whole number
+abbrev whole : Bool → ℕ → Fraction
+whole s a = signed s a 1 (lit< tt)
+
+whole-is : (x : Float) (s : Bool) (a : ℕ) → HasValue x s a 1 → valueOf x ≡ rational (whole s a)
+whole-is x s a v = value-is x s a 1 (lit< tt) v
+
+number-is : (n : ℕ) → n ≤ 2 ^ 53 → valueOf (f64 n) ≡ rational (whole false n)
+unfolding ofInt
+number-is n h = whole-is (f64 n) false n (round-whole binary64 false n h)
+
+signed-product : (s t : Bool) (a b : ℕ) → rational (whole (unlike (not s) t) (a * b)) ≡ -ℚ rational (whole s a) *ℚ rational (whole t b)
+unfolding -ℚ_ _*ℚ_
+signed-product false false a b = rational-same (omega arith)
+signed-product false true a b = rational-same (omega arith)
+signed-product true false a b = rational-same (omega arith)
+signed-product true true a b = rational-same (omega arith)
 
 -- −u·x
-whole-product : (u x : Float) (f e : ℤ) → Whole u f → Whole x e → natAbs f ≤ 2 ^ 26 → natAbs e ≤ 2 ^ 26 → Whole (neg u ⊗ x) (negℤ f *ℤ e)
-unfolding whole-neg
-whole-product u x f e wu wx hu hx =
-    let v = whole-neg u f wu in
-    let a : wu .size ≤ 2 ^ 26 = subst (λ (z : ℕ). z ≤ 2 ^ 26) (ap natAbs (wu .is) ∙ size-of (wu .sign) (wu .size)) hu in
-    let b : wx .size ≤ 2 ^ 26 = subst (λ (z : ℕ). z ≤ 2 ^ 26) (ap natAbs (wx .is) ∙ size-of (wx .sign) (wx .size)) hx in
-    let h : wu .size * wx .size < 2 ^ 53 = lt-of-le-of-lt (mul-le-mul a b) (lit< tt) in
-    record {
-      sign = unlike (v .sign) (wx .sign);
-      size = wu .size * wx .size;
-      value = product-value (neg u) x (v .sign) (wx .sign) (wu .size) (wx .size) (v .value) (wx .value) h;
-      is = ap (λ (z : ℤ). z *ℤ e) (v .is) ∙ ap (λ (z : ℤ). signed (v .sign) (wu .size) *ℤ z) (wx .is) ∙ signed-mul (v .sign) (wx .sign) (wu .size) (wx .size);
-    }
+product-has : (u x : Float) (v : Whole u) (w : Whole x) → HasValue (neg u ⊗ x) (unlike (not (v .sign)) (w .sign)) (v .size * w .size) 1
+product-has u x v w =
+    product-value (neg u) x (not (v .sign)) (w .sign) (v .size) (w .size) (neg-value u (v .sign) (v .size) (v .value)) (w .value)
+    (lt-of-le-of-lt (mul-le-mul (v .small) (w .small)) (lit< tt))
 
-pub rows-are : RowsAre
-rows-are p q e f a b =
-    let n = whole-number 0 (lit≤ tt) in
-    let i = whole-number 1 (lit≤ tt) in
-    let ux = whole-product _ _ _ _ (b .x-whole) (a .x-whole) (b .x-small) (a .x-small) in
-    let uy = whole-product _ _ _ _ (b .x-whole) (a .y-whole) (b .x-small) (a .y-small) in
-    let vx = whole-product _ _ _ _ (b .y-whole) (a .x-whole) (b .y-small) (a .x-small) in
-    let vy = whole-product _ _ _ _ (b .y-whole) (a .y-whole) (b .y-small) (a .y-small) in (
-      (a .x-whole, (a .y-whole, (i, (n, (n, (n, (ux, (uy, (b .x-whole, tt))))))))),
-      (n, (n, (n, (a .x-whole, (a .y-whole, (i, (vx, (vy, (b .y-whole, tt))))))))),
+product-is : (u x : Float) → Whole u → Whole x → valueOf (neg u ⊗ x) ≡ -ℚ valueOf u *ℚ valueOf x
+product-is u x v w =
+    whole-is (neg u ⊗ x) _ _ (product-has u x v w)
+    ∙ signed-product (v .sign) (w .sign) (v .size) (w .size)
+    ∙ sym (ap₂ (λ y z. -ℚ y *ℚ z) (whole-is u (v .sign) (v .size) (v .value)) (whole-is x (w .sign) (w .size) (w .value)))
+
+-- ---- the rows of a point
+module _ (prefers : ℚ → ℚ → Bool) (refuses : ℚ → Bool) (p q : Point) (a : WholePoint p) (b : WholePoint q) where
+  nought : valueOf (f64 0) ≡ 0ℚ
+  nought = number-is 0 (lit≤ tt)
+
+  one : valueOf (f64 1) ≡ 1ℚ
+  one = number-is 1 (lit≤ tt)
+
+  abbrev N : Arithmetic ℚ
+  N = exact prefers refuses
+
+  row-x : map valueOf (rowX p q) ≡ rowU N (valueOf (p .x)) (valueOf (p .y)) (valueOf (q .x))
+  row-x = λ i.
+      valueOf (p .x) ∷ valueOf (p .y) ∷ one i ∷ nought i ∷ nought i ∷ nought i
+      ∷ product-is (q .x) (p .x) (b .0) (a .0) i ∷ product-is (q .x) (p .y) (b .0) (a .1) i ∷ valueOf (q .x) ∷ []
+
+  row-y : map valueOf (rowY p q) ≡ rowV N (valueOf (p .x)) (valueOf (p .y)) (valueOf (q .y))
+  row-y = λ i.
+      nought i ∷ nought i ∷ nought i ∷ valueOf (p .x) ∷ valueOf (p .y) ∷ one i
+      ∷ product-is (q .y) (p .x) (b .1) (a .0) i ∷ product-is (q .y) (p .y) (b .1) (a .1) i ∷ valueOf (q .y) ∷ []
+
+  rows : map valueOf (rowX p q) ++ map valueOf (rowY p q) ≡ rowsOver N valueOf p q
+  rows = λ i. row-x i ++ row-y i
+
+-- ---- .. are finite
+finite : (x : Float) (s : Bool) (a c : ℕ) → HasValue x s a c → Finite x
+finite nan s a c v = v
+finite (inf t) s a c v = v
+finite (fin t m e) s a c v = tt
+
+whole-finite : (x : Float) → Whole x → Finite x
+whole-finite x w = finite x (w .sign) (w .size) 1 (w .value)
+
+number-finite : (n : ℕ) → n ≤ 2 ^ 53 → Finite (f64 n)
+unfolding ofInt
+number-finite n h = finite (f64 n) false n 1 (round-whole binary64 false n h)
+
+product-finite : (u x : Float) → Whole u → Whole x → Finite (neg u ⊗ x)
+product-finite u x v w = finite (neg u ⊗ x) _ _ 1 (product-has u x v w)
+
+rows-finite : (p q : Point) → WholePoint p → WholePoint q → AllFinite (rowX p q ++ rowY p q)
+rows-finite p q a b =
+    let x = whole-finite (p .x) (a .0) in
+    let y = whole-finite (p .y) (a .1) in
+    let n = number-finite 0 (lit≤ tt) in
+    let i = number-finite 1 (lit≤ tt) in
+    let ux = product-finite (q .x) (p .x) (b .0) (a .0) in
+    let uy = product-finite (q .x) (p .y) (b .0) (a .1) in
+    let vx = product-finite (q .y) (p .x) (b .1) (a .0) in
+    let vy = product-finite (q .y) (p .y) (b .1) (a .1) in
+    let v = whole-finite (q .y) (b .1) in
+    (x, (y, (i, (n, (n, (n, (ux, (uy, (whole-finite (q .x) (b .0), (n, (n, (n, (x, (y, (i, (vx, (vy, (v, tt))))))))))))))))))
+
+both-finite : (l k : List Float) → AllFinite l → AllFinite k → AllFinite (l ++ k)
+both-finite [] k f g = g
+both-finite (x ∷ l) k f g = (f .0, both-finite l k (f .1) g)
+
+abbrev rowsXY : Point → Point → List Float
+rowsXY p q = rowX p q ++ rowY p q
+
+pub equations-are : EquationsAre
+unfolding equations
+equations-are prefers refuses src dst a b =
+    let tl = rows-finite (src .tl) (dst .tl) (a .0) (b .0) in
+    let tr = rows-finite (src .tr) (dst .tr) (a .1) (b .1) in
+    let br = rows-finite (src .br) (dst .br) (a .2) (b .2) in
+    let bl = rows-finite (src .bl) (dst .bl) (a .3) (b .3) in
+    let l = rowsXY (src .tl) (dst .tl) in
+    let m = rowsXY (src .tr) (dst .tr) in
+    let n = rowsXY (src .br) (dst .br) in
+    let k = rowsXY (src .bl) (dst .bl) in (
+      both-finite l (m ++ n ++ k) tl (both-finite m (n ++ k) tr (both-finite n k br bl)),
+      λ i.
+          rows prefers refuses (src .tl) (dst .tl) (a .0) (b .0) i
+          ++ rows prefers refuses (src .tr) (dst .tr) (a .1) (b .1) i
+          ++ rows prefers refuses (src .br) (dst .br) (a .2) (b .2) i
+          ++ rows prefers refuses (src .bl) (dst .bl) (a .3) (b .3) i,
     )

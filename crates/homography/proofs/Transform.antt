@@ -1,143 +1,140 @@
--- The rows of the direct linear transform over exact whole numbers hold exactly when the matrix takes each point to its target, in homogeneous
--- coordinates. Assumes nothing.
-use mathlib.Core.Path.{_≡_, sym, ap, subst, _∙_}
-use Prim.Native.Nat.{ℕ}
-use lib.IntN.{one, ℤ, pos, negℤ, sucℤ, predℤ, _+ℤ_, _*ℤ_, ℤ-ind, +ℤ-one, -ℤ-one, +ℤ-idl, +ℤ-idr, +ℤ-assoc, +ℤ-comm, +ℤ-invr, +ℤ-invl, sucℤ-+ℤ, predℤ-+ℤ, sucℤ-*ℤ, predℤ-*ℤ, zero-*ℤ, *ℤ-comm, *ℤ-one, negℤ-+ℤ}
-use Rattle.homography.specs.Transform.{0ℤ, 1ℤ, Exact, exactU, exactV, Holds, line, Takes, BothHold, TransformIs}
+-- Over exact numbers the eight rows of the direct linear transform hold exactly when the matrix takes each point to its own target, in homogeneous
+-- coordinates; `apply` has the same lines, and the answer the same layout. Assumes nothing.
+use mathlib.Core.Path.{_≡_, refl, sym, ap, _∙_}
+use mathlib.Core.Logic.{_↔_}
+use Prim.Native.Nat.{ℕ, zero, suc, _<_}
+use native.Mathlib.Omega.{arith}
+use lib.Dec.{lit<}
+use Rattle.base.specs.Loops.{table}
+use Rattle.homography.specs.Arithmetic.{Arithmetic, CommutativeRing}
+use Rattle.homography.specs.Elimination.{solution, lastColumn}
+use Rattle.homography.specs.Equations.{equationsOver, homographyOver}
+use Rattle.homography.specs.Homography.{line, rowTimes, apply}
+use Rattle.homography.specs.Rationals.{ℚ, exact, valueOf}
+use Rattle.homography.specs.Transform.{total, RowHolds, TransformIs, RationalTransformIs, AppliesLines, LaidOutByRows}
+use Rattle.homography.proofs.Ring as ring
+use Rattle.homography.proofs.Rationals.{rational-ring}
 
--- ---- laws of ℤ that the library lacks
-swap : (a b c : ℤ) → a +ℤ b +ℤ c ≡ a +ℤ c +ℤ b
-swap a b c = +ℤ-assoc a b c ∙ ap (λ z. a +ℤ z) (+ℤ-comm b c) ∙ sym (+ℤ-assoc a c b)
+module _ {A : Type 0} (N : Arithmetic A) (R : CommutativeRing N) where
+  open Arithmetic N using (nought as 𝟘, one as 𝟙, plus as _⊞_, times as _⊠_, minus as ⊟_)
 
-distrib : (a b k : ℤ) → (a +ℤ b) *ℤ k ≡ a *ℤ k +ℤ b *ℤ k
-distrib a b k = ℤ-ind (λ z. (z +ℤ b) *ℤ k ≡ z *ℤ k +ℤ b *ℤ k) base (λ n h. subst (λ z. (z +ℤ b) *ℤ k ≡ z *ℤ k +ℤ b *ℤ k) (sym (+ℤ-one (pos n))) (up (pos n) h)) (λ n h. subst (λ z. (z +ℤ b) *ℤ k ≡ z *ℤ k +ℤ b *ℤ k) (sym (-ℤ-one (negℤ (pos n)))) (down (negℤ (pos n)) h)) a
-  where
-    base : (0ℤ +ℤ b) *ℤ k ≡ 0ℤ *ℤ k +ℤ b *ℤ k
-    base = ap (λ z. z *ℤ k) (+ℤ-idl b) ∙ sym (ap (λ z. z +ℤ b *ℤ k) (zero-*ℤ k) ∙ +ℤ-idl (b *ℤ k))
+  infixl 65 _⊞_
+  infixl 70 _⊠_
+  infix 75 ⊟_
+  gone : (a g : A) → a ⊞ 𝟘 ⊠ g ≡ a
+  gone a g = ap (λ z. a ⊞ z) (ring.nought-times N R g) ∙ R .plus-nought a
 
-    up : (m : ℤ) → (m +ℤ b) *ℤ k ≡ m *ℤ k +ℤ b *ℤ k → (sucℤ m +ℤ b) *ℤ k ≡ sucℤ m *ℤ k +ℤ b *ℤ k
-    up m h =
-        ap (λ z. z *ℤ k) (sucℤ-+ℤ m b) ∙ sucℤ-*ℤ (m +ℤ b) k ∙ ap (λ z. z +ℤ k) h ∙ swap (m *ℤ k) (b *ℤ k) k ∙ sym (ap (λ z. z +ℤ b *ℤ k) (sucℤ-*ℤ m k))
+  -- −u·x·g is the negative of u·(g·x)
+  negative : (u x g : A) → ⊟ u ⊠ x ⊠ g ≡ ⊟ (u ⊠ (g ⊠ x))
+  negative u x g =
+      ap (λ z. z ⊠ g) (ring.minus-times N R u x)
+      ∙ ring.minus-times N R (u ⊠ x) g
+      ∙ ap ⊟_ (R .times-assoc u x g ∙ ap (λ z. u ⊠ z) (R .times-comm x g))
 
-    down : (m : ℤ) → (m +ℤ b) *ℤ k ≡ m *ℤ k +ℤ b *ℤ k → (predℤ m +ℤ b) *ℤ k ≡ predℤ m *ℤ k +ℤ b *ℤ k
-    down m h =
-        ap (λ z. z *ℤ k) (predℤ-+ℤ m b) ∙ predℤ-*ℤ (m +ℤ b) k ∙ ap (λ z. z +ℤ negℤ k) h ∙ swap (m *ℤ k) (b *ℤ k) (negℤ k) ∙ sym (ap (λ z. z +ℤ b *ℤ k) (predℤ-*ℤ m k))
+  -- the right side, multiplied out
+  scaled : (u a b w : A) → w ≡ 𝟙 → u ⊠ (a ⊞ b ⊞ w) ≡ u ⊞ (u ⊠ a ⊞ u ⊠ b)
+  scaled u a b w e =
+      R .times-plus u (a ⊞ b) w
+      ∙ ap (λ z. z ⊞ u ⊠ w) (R .times-plus u a b)
+      ∙ ap (λ z. u ⊠ a ⊞ u ⊠ b ⊞ z) (ap (λ z. u ⊠ z) e ∙ R .times-one u)
+      ∙ R .plus-comm (u ⊠ a ⊞ u ⊠ b) u
 
--- what adds up to 0 is the negative
-opposite : (a b : ℤ) → a +ℤ b ≡ 0ℤ → a ≡ negℤ b
-opposite a b h = sym (+ℤ-idr a) ∙ ap (λ z. a +ℤ z) (sym (+ℤ-invr b)) ∙ sym (+ℤ-assoc a b (negℤ b)) ∙ ap (λ z. z +ℤ negℤ b) h ∙ +ℤ-idl (negℤ b)
+  -- L + −P + −Q = u exactly when L = u + (P + Q)
+  both : (L P Q : A) → L ⊞ ⊟ P ⊞ ⊟ Q ≡ L ⊞ ⊟ (P ⊞ Q)
+  both L P Q = R .plus-assoc L (⊟ P) (⊟ Q) ∙ ap (λ z. L ⊞ z) (ring.minus-plus N R P Q)
 
-pub neg-mul : (u x : ℤ) → negℤ u *ℤ x ≡ negℤ (u *ℤ x)
-neg-mul u x = opposite (negℤ u *ℤ x) (u *ℤ x) (sym (distrib (negℤ u) u x) ∙ ap (λ z. z *ℤ x) (+ℤ-invl u) ∙ zero-*ℤ x)
+  moved : (L P Q u : A) → L ⊞ ⊟ P ⊞ ⊟ Q ≡ u → L ≡ u ⊞ (P ⊞ Q)
+  moved L P Q u h = sym (ring.minus-cancel N R L (P ⊞ Q)) ∙ ap (λ z. z ⊞ (P ⊞ Q)) (sym (both L P Q) ∙ h)
 
-mul-assoc : (a b c : ℤ) → a *ℤ b *ℤ c ≡ a *ℤ (b *ℤ c)
-mul-assoc a b c = ℤ-ind (λ z. z *ℤ b *ℤ c ≡ z *ℤ (b *ℤ c)) base (λ n h. subst (λ z. z *ℤ b *ℤ c ≡ z *ℤ (b *ℤ c)) (sym (+ℤ-one (pos n))) (up (pos n) h)) (λ n h. subst (λ z. z *ℤ b *ℤ c ≡ z *ℤ (b *ℤ c)) (sym (-ℤ-one (negℤ (pos n)))) (down (negℤ (pos n)) h)) a
-  where
-    base : 0ℤ *ℤ b *ℤ c ≡ 0ℤ *ℤ (b *ℤ c)
-    base = ap (λ z. z *ℤ c) (zero-*ℤ b) ∙ zero-*ℤ c ∙ sym (zero-*ℤ (b *ℤ c))
+  back : (L P Q u : A) → L ≡ u ⊞ (P ⊞ Q) → L ⊞ ⊟ P ⊞ ⊟ Q ≡ u
+  back L P Q u h = both L P Q ∙ ap (λ z. z ⊞ ⊟ (P ⊞ Q)) h ∙ ring.plus-cancel N R u (P ⊞ Q)
 
-    up : (m : ℤ) → m *ℤ b *ℤ c ≡ m *ℤ (b *ℤ c) → sucℤ m *ℤ b *ℤ c ≡ sucℤ m *ℤ (b *ℤ c)
-    up m h = ap (λ z. z *ℤ c) (sucℤ-*ℤ m b) ∙ distrib (m *ℤ b) b c ∙ ap (λ z. z +ℤ b *ℤ c) h ∙ sym (sucℤ-*ℤ m (b *ℤ c))
+  module _ (x y u : A) (m : ℕ → A) (last : m 8 ≡ 𝟙) where
+    -- the row of u, and of v
+    abbrev sum-u : A
+    sum-u = 𝟘 ⊞ x ⊠ m 0 ⊞ y ⊠ m 1 ⊞ 𝟙 ⊠ m 2 ⊞ 𝟘 ⊠ m 3 ⊞ 𝟘 ⊠ m 4 ⊞ 𝟘 ⊠ m 5 ⊞ ⊟ u ⊠ x ⊠ m 6 ⊞ ⊟ u ⊠ y ⊠ m 7
 
-    down : (m : ℤ) → m *ℤ b *ℤ c ≡ m *ℤ (b *ℤ c) → predℤ m *ℤ b *ℤ c ≡ predℤ m *ℤ (b *ℤ c)
-    down m h =
-        ap (λ z. z *ℤ c) (predℤ-*ℤ m b) ∙ distrib (m *ℤ b) (negℤ b) c ∙ ap (λ z. m *ℤ b *ℤ c +ℤ z) (neg-mul b c) ∙ ap (λ z. z +ℤ negℤ (b *ℤ c)) h ∙ sym (predℤ-*ℤ m (b *ℤ c))
+    abbrev sum-v : A
+    sum-v = 𝟘 ⊞ 𝟘 ⊠ m 0 ⊞ 𝟘 ⊠ m 1 ⊞ 𝟘 ⊠ m 2 ⊞ x ⊠ m 3 ⊞ y ⊠ m 4 ⊞ 𝟙 ⊠ m 5 ⊞ ⊟ u ⊠ x ⊠ m 6 ⊞ ⊟ u ⊠ y ⊠ m 7
 
--- ---- a row
-one-left : (u : ℤ) → 1ℤ *ℤ u ≡ u
-unfolding one
-one-left u = *ℤ-comm 1ℤ u ∙ *ℤ-one u
+    -- a row of the matrix, from the terms of an equation
+    front : (a b c : A) → 𝟘 ⊞ x ⊠ a ⊞ y ⊠ b ⊞ 𝟙 ⊠ c ≡ a ⊠ x ⊞ b ⊠ y ⊞ c
+    front a b c =
+        ap (λ z. z ⊞ y ⊠ b ⊞ 𝟙 ⊠ c) (ring.nought-plus N R (x ⊠ a) ∙ R .times-comm x a)
+        ∙ ap (λ z. a ⊠ x ⊞ z ⊞ 𝟙 ⊠ c) (R .times-comm y b)
+        ∙ ap (λ z. a ⊠ x ⊞ b ⊠ y ⊞ z) (ring.one-times N R c)
 
-gone : (a g : ℤ) → a +ℤ 0ℤ *ℤ g ≡ a
-gone a g = ap (λ z. a +ℤ z) (zero-*ℤ g) ∙ +ℤ-idr a
+    -- .. and the terms with u
+    behind : (L : A) → L ⊞ ⊟ u ⊠ x ⊠ m 6 ⊞ ⊟ u ⊠ y ⊠ m 7 ≡ L ⊞ ⊟ (u ⊠ (m 6 ⊠ x)) ⊞ ⊟ (u ⊠ (m 7 ⊠ y))
+    behind L =
+        ap (λ z. L ⊞ z ⊞ ⊟ u ⊠ y ⊠ m 7) (negative u x (m 6)) ∙ ap (λ z. L ⊞ ⊟ (u ⊠ (m 6 ⊠ x)) ⊞ z) (negative u y (m 7))
 
-minus : (u x g : ℤ) → negℤ u *ℤ x *ℤ g ≡ negℤ (u *ℤ x *ℤ g)
-minus u x g = ap (λ z. z *ℤ g) (neg-mul u x) ∙ neg-mul (u *ℤ x) g
+    -- the zeros of both rows gone
+    clean-u : sum-u ≡ line N m 0 x y ⊞ ⊟ u ⊠ x ⊠ m 6 ⊞ ⊟ u ⊠ y ⊠ m 7
+    clean-u =
+        ap (λ z. z ⊞ ⊟ u ⊠ x ⊠ m 6 ⊞ ⊟ u ⊠ y ⊠ m 7) (gone _ (m 5) ∙ gone _ (m 4) ∙ gone _ (m 3) ∙ front (m 0) (m 1) (m 2))
 
--- −u·x·g − u·y·h + A = u exactly when A = u·(g·x + h·y + 1)
-scaled : (u x y g h : ℤ) → u *ℤ line g h 1ℤ x y ≡ u +ℤ (u *ℤ x *ℤ g +ℤ u *ℤ y *ℤ h)
-scaled u x y g h =
-    *ℤ-comm u (line g h 1ℤ x y)
-    ∙ distrib (g *ℤ x +ℤ h *ℤ y) 1ℤ u
-    ∙ ap (λ z. z +ℤ 1ℤ *ℤ u) (distrib (g *ℤ x) (h *ℤ y) u)
-    ∙ ap (λ z. g *ℤ x *ℤ u +ℤ h *ℤ y *ℤ u +ℤ z) (one-left u)
-    ∙ +ℤ-comm (g *ℤ x *ℤ u +ℤ h *ℤ y *ℤ u) u
-    ∙ ap (λ z. u +ℤ z) (ap (λ z. z +ℤ h *ℤ y *ℤ u) (around g x u) ∙ ap (λ z. u *ℤ x *ℤ g +ℤ z) (around h y u))
-  where
-    around : (g x u : ℤ) → g *ℤ x *ℤ u ≡ u *ℤ x *ℤ g
-    around g x u = *ℤ-comm (g *ℤ x) u ∙ ap (λ z. u *ℤ z) (*ℤ-comm g x) ∙ sym (mul-assoc u x g)
+    clean-v : sum-v ≡ line N m 1 x y ⊞ ⊟ u ⊠ x ⊠ m 6 ⊞ ⊟ u ⊠ y ⊠ m 7
+    clean-v =
+        ap (λ z. z ⊞ x ⊠ m 3 ⊞ y ⊠ m 4 ⊞ 𝟙 ⊠ m 5 ⊞ ⊟ u ⊠ x ⊠ m 6 ⊞ ⊟ u ⊠ y ⊠ m 7) (gone _ (m 2) ∙ gone _ (m 1) ∙ gone _ (m 0))
+        ∙ ap (λ z. z ⊞ ⊟ u ⊠ x ⊠ m 6 ⊞ ⊟ u ⊠ y ⊠ m 7) (front (m 3) (m 4) (m 5))
 
--- A + −P + −Q = u exactly when A = u + (P + Q)
-moved : (A P Q u : ℤ) → A +ℤ negℤ P +ℤ negℤ Q ≡ u → A ≡ u +ℤ (P +ℤ Q)
-moved A P Q u h =
-    sym (+ℤ-idr A)
-    ∙ ap (λ z. A +ℤ z) (sym (+ℤ-invl (P +ℤ Q)))
-    ∙ sym (+ℤ-assoc A (negℤ (P +ℤ Q)) (P +ℤ Q))
-    ∙ ap (λ z. A +ℤ z +ℤ (P +ℤ Q)) (negℤ-+ℤ P Q)
-    ∙ ap (λ z. z +ℤ (P +ℤ Q)) (sym (+ℤ-assoc A (negℤ P) (negℤ Q)))
-    ∙ ap (λ z. z +ℤ (P +ℤ Q)) h
+    holds : (L s : A) → s ≡ L ⊞ ⊟ u ⊠ x ⊠ m 6 ⊞ ⊟ u ⊠ y ⊠ m 7 → (s ≡ u) ↔ (L ≡ u ⊠ line N m 2 x y)
+    holds L s e = (
+      λ h. moved L (u ⊠ (m 6 ⊠ x)) (u ⊠ (m 7 ⊠ y)) u (sym (e ∙ behind L) ∙ h) ∙ sym (scaled u (m 6 ⊠ x) (m 7 ⊠ y) (m 8) last),
+      λ h. e ∙ behind L ∙ back L (u ⊠ (m 6 ⊠ x)) (u ⊠ (m 7 ⊠ y)) u (h ∙ scaled u (m 6 ⊠ x) (m 7 ⊠ y) (m 8) last),
+    )
 
-back : (A P Q u : ℤ) → A ≡ u +ℤ (P +ℤ Q) → A +ℤ negℤ P +ℤ negℤ Q ≡ u
-back A P Q u h =
-    +ℤ-assoc A (negℤ P) (negℤ Q)
-    ∙ ap (λ z. A +ℤ z) (sym (negℤ-+ℤ P Q))
-    ∙ ap (λ z. z +ℤ negℤ (P +ℤ Q)) h
-    ∙ +ℤ-assoc u (P +ℤ Q) (negℤ (P +ℤ Q))
-    ∙ ap (λ z. u +ℤ z) (+ℤ-invr (P +ℤ Q))
-    ∙ +ℤ-idr u
+    -- the row of u holds exactly when (the first row) · (x, y, 1) = u · (the last row) · (x, y, 1); the row of v with the second row
+    row-u : (sum-u ≡ u) ↔ (line N m 0 x y ≡ u ⊠ line N m 2 x y)
+    row-u = holds (line N m 0 x y) sum-u clean-u
 
--- the left side of a row, with its zeros and ones gone
-left-u : (x y u : ℤ) (h : ℕ → ℤ)
-    → x *ℤ h 0 +ℤ y *ℤ h 1 +ℤ 1ℤ *ℤ h 2 +ℤ 0ℤ *ℤ h 3 +ℤ 0ℤ *ℤ h 4 +ℤ 0ℤ *ℤ h 5 +ℤ negℤ u *ℤ x *ℤ h 6 +ℤ negℤ u *ℤ y *ℤ h 7
-    ≡ line (h 0) (h 1) (h 2) x y +ℤ negℤ (u *ℤ x *ℤ h 6) +ℤ negℤ (u *ℤ y *ℤ h 7)
-left-u x y u h =
-    ap (λ z. z +ℤ negℤ u *ℤ x *ℤ h 6 +ℤ negℤ u *ℤ y *ℤ h 7) front
-    ∙ ap (λ z. line (h 0) (h 1) (h 2) x y +ℤ z +ℤ negℤ u *ℤ y *ℤ h 7) (minus u x (h 6))
-    ∙ ap (λ z. line (h 0) (h 1) (h 2) x y +ℤ negℤ (u *ℤ x *ℤ h 6) +ℤ z) (minus u y (h 7))
-  where
-    front : x *ℤ h 0 +ℤ y *ℤ h 1 +ℤ 1ℤ *ℤ h 2 +ℤ 0ℤ *ℤ h 3 +ℤ 0ℤ *ℤ h 4 +ℤ 0ℤ *ℤ h 5 ≡ line (h 0) (h 1) (h 2) x y
-    front =
-        gone (x *ℤ h 0 +ℤ y *ℤ h 1 +ℤ 1ℤ *ℤ h 2 +ℤ 0ℤ *ℤ h 3 +ℤ 0ℤ *ℤ h 4) (h 5)
-        ∙ gone (x *ℤ h 0 +ℤ y *ℤ h 1 +ℤ 1ℤ *ℤ h 2 +ℤ 0ℤ *ℤ h 3) (h 4)
-        ∙ gone (x *ℤ h 0 +ℤ y *ℤ h 1 +ℤ 1ℤ *ℤ h 2) (h 3)
-        ∙ ap (λ z. x *ℤ h 0 +ℤ y *ℤ h 1 +ℤ z) (one-left (h 2))
-        ∙ ap (λ z. z +ℤ y *ℤ h 1 +ℤ h 2) (*ℤ-comm x (h 0))
-        ∙ ap (λ z. h 0 *ℤ x +ℤ z +ℤ h 2) (*ℤ-comm y (h 1))
+    row-v : (sum-v ≡ u) ↔ (line N m 1 x y ≡ u ⊠ line N m 2 x y)
+    row-v = holds (line N m 1 x y) sum-v clean-v
 
--- the row of u holds exactly when (the first row) · (x, y, 1) = u · (the last row) · (x, y, 1)
-row-u : (x y u : ℤ) (h : ℕ → ℤ) → Holds (exactU x y u) h → line (h 0) (h 1) (h 2) x y ≡ u *ℤ line (h 6) (h 7) 1ℤ x y
-row-u x y u h e = moved (line (h 0) (h 1) (h 2) x y) (u *ℤ x *ℤ h 6) (u *ℤ y *ℤ h 7) u (sym (left-u x y u h) ∙ e) ∙ sym (scaled u x y (h 6) (h 7))
-
-row-u′ : (x y u : ℤ) (h : ℕ → ℤ) → line (h 0) (h 1) (h 2) x y ≡ u *ℤ line (h 6) (h 7) 1ℤ x y → Holds (exactU x y u) h
-row-u′ x y u h e = left-u x y u h ∙ back (line (h 0) (h 1) (h 2) x y) (u *ℤ x *ℤ h 6) (u *ℤ y *ℤ h 7) u (e ∙ scaled u x y (h 6) (h 7))
-
--- .. and the row of v, with the second row of the matrix
-left-v : (x y v : ℤ) (h : ℕ → ℤ)
-    → 0ℤ *ℤ h 0 +ℤ 0ℤ *ℤ h 1 +ℤ 0ℤ *ℤ h 2 +ℤ x *ℤ h 3 +ℤ y *ℤ h 4 +ℤ 1ℤ *ℤ h 5 +ℤ negℤ v *ℤ x *ℤ h 6 +ℤ negℤ v *ℤ y *ℤ h 7
-    ≡ line (h 3) (h 4) (h 5) x y +ℤ negℤ (v *ℤ x *ℤ h 6) +ℤ negℤ (v *ℤ y *ℤ h 7)
-left-v x y v h =
-    ap (λ z. z +ℤ x *ℤ h 3 +ℤ y *ℤ h 4 +ℤ 1ℤ *ℤ h 5 +ℤ negℤ v *ℤ x *ℤ h 6 +ℤ negℤ v *ℤ y *ℤ h 7) none
-    ∙ ap (λ z. z +ℤ y *ℤ h 4 +ℤ 1ℤ *ℤ h 5 +ℤ negℤ v *ℤ x *ℤ h 6 +ℤ negℤ v *ℤ y *ℤ h 7) (+ℤ-idl (x *ℤ h 3) ∙ *ℤ-comm x (h 3))
-    ∙ ap (λ z. h 3 *ℤ x +ℤ z +ℤ 1ℤ *ℤ h 5 +ℤ negℤ v *ℤ x *ℤ h 6 +ℤ negℤ v *ℤ y *ℤ h 7) (*ℤ-comm y (h 4))
-    ∙ ap (λ z. h 3 *ℤ x +ℤ h 4 *ℤ y +ℤ z +ℤ negℤ v *ℤ x *ℤ h 6 +ℤ negℤ v *ℤ y *ℤ h 7) (one-left (h 5))
-    ∙ ap (λ z. line (h 3) (h 4) (h 5) x y +ℤ z +ℤ negℤ v *ℤ y *ℤ h 7) (minus v x (h 6))
-    ∙ ap (λ z. line (h 3) (h 4) (h 5) x y +ℤ negℤ (v *ℤ x *ℤ h 6) +ℤ z) (minus v y (h 7))
-  where
-    none : 0ℤ *ℤ h 0 +ℤ 0ℤ *ℤ h 1 +ℤ 0ℤ *ℤ h 2 ≡ 0ℤ
-    none = gone (0ℤ *ℤ h 0 +ℤ 0ℤ *ℤ h 1) (h 2) ∙ gone (0ℤ *ℤ h 0) (h 1) ∙ zero-*ℤ (h 0)
-
-row-v : (x y v : ℤ) (h : ℕ → ℤ) → Holds (exactV x y v) h → line (h 3) (h 4) (h 5) x y ≡ v *ℤ line (h 6) (h 7) 1ℤ x y
-row-v x y v h e = moved (line (h 3) (h 4) (h 5) x y) (v *ℤ x *ℤ h 6) (v *ℤ y *ℤ h 7) v (sym (left-v x y v h) ∙ e) ∙ sym (scaled v x y (h 6) (h 7))
-
-row-v′ : (x y v : ℤ) (h : ℕ → ℤ) → line (h 3) (h 4) (h 5) x y ≡ v *ℤ line (h 6) (h 7) 1ℤ x y → Holds (exactV x y v) h
-row-v′ x y v h e = left-v x y v h ∙ back (line (h 3) (h 4) (h 5) x y) (v *ℤ x *ℤ h 6) (v *ℤ y *ℤ h 7) v (e ∙ scaled v x y (h 6) (h 7))
-
--- ---- a point, and four of them
-rows-take : (h : ℕ → ℤ) (p q : Exact) → BothHold h p q → Takes h p q
-rows-take h p q e = (row-u (p .x) (p .y) (q .x) h (e .0), row-v (p .x) (p .y) (q .y) h (e .1))
-
-take-rows : (h : ℕ → ℤ) (p q : Exact) → Takes h p q → BothHold h p q
-take-rows h p q e = (row-u′ (p .x) (p .y) (q .x) h (e .0), row-v′ (p .x) (p .y) (q .y) h (e .1))
+-- what holds for each of eight rows
+pub eight : (P : ℕ → Type 0) → P 0 → P 1 → P 2 → P 3 → P 4 → P 5 → P 6 → P 7 → (r : ℕ) → r < 8 → P r
+eight P a b c d e f g h zero l = a
+eight P a b c d e f g h (suc zero) l = b
+eight P a b c d e f g h (suc (suc zero)) l = c
+eight P a b c d e f g h (suc (suc (suc zero))) l = d
+eight P a b c d e f g h (suc (suc (suc (suc zero)))) l = e
+eight P a b c d e f g h (suc (suc (suc (suc (suc zero))))) l = f
+eight P a b c d e f g h (suc (suc (suc (suc (suc (suc zero)))))) l = g
+eight P a b c d e f g h (suc (suc (suc (suc (suc (suc (suc zero))))))) l = h
+eight P a b c d e f g h (suc (suc (suc (suc (suc (suc (suc (suc r)))))))) l = absurd (omega arith)
 
 pub transform-is : TransformIs
-transform-is h src dst = (λ f i l. rows-take h (src i) (dst i) (f i l), λ f i l. take-rows h (src i) (dst i) (f i l))
+unfolding equationsOver total
+transform-is A N R num src dst m last =
+    let u0 = row-u N R (num (src .tl .x)) (num (src .tl .y)) (num (dst .tl .x)) m last in
+    let v0 = row-v N R (num (src .tl .x)) (num (src .tl .y)) (num (dst .tl .y)) m last in
+    let u1 = row-u N R (num (src .tr .x)) (num (src .tr .y)) (num (dst .tr .x)) m last in
+    let v1 = row-v N R (num (src .tr .x)) (num (src .tr .y)) (num (dst .tr .y)) m last in
+    let u2 = row-u N R (num (src .br .x)) (num (src .br .y)) (num (dst .br .x)) m last in
+    let v2 = row-v N R (num (src .br .x)) (num (src .br .y)) (num (dst .br .y)) m last in
+    let u3 = row-u N R (num (src .bl .x)) (num (src .bl .y)) (num (dst .bl .x)) m last in
+    let v3 = row-v N R (num (src .bl .x)) (num (src .bl .y)) (num (dst .bl .y)) m last in (
+      λ f. (
+        (u0 .0 (f 0 (lit< tt)), v0 .0 (f 1 (lit< tt))),
+        (u1 .0 (f 2 (lit< tt)), v1 .0 (f 3 (lit< tt))),
+        (u2 .0 (f 4 (lit< tt)), v2 .0 (f 5 (lit< tt))),
+        (u3 .0 (f 6 (lit< tt)), v3 .0 (f 7 (lit< tt))),
+      ),
+      λ t.
+          eight (RowHolds N (equationsOver N num src dst) m)
+          (u0 .1 (t .0 .0)) (v0 .1 (t .0 .1)) (u1 .1 (t .1 .0)) (v1 .1 (t .1 .1))
+          (u2 .1 (t .2 .0)) (v2 .1 (t .2 .1)) (u3 .1 (t .3 .0)) (v3 .1 (t .3 .1)),
+    )
+
+pub rational-transform-is : RationalTransformIs
+rational-transform-is prefers refuses src dst m last = transform-is ℚ (exact prefers refuses) (rational-ring prefers refuses) valueOf src dst m last
+
+-- ---- `apply` and the layout, by definition
+pub applies-lines : AppliesLines
+unfolding apply rowTimes
+applies-lines h p = refl
+
+pub laid-out-by-rows : LaidOutByRows
+unfolding homographyOver solution lastColumn table
+laid-out-by-rows A N num src dst = (eight _ refl refl refl refl refl refl refl refl, refl)

@@ -10,6 +10,7 @@ use Rattle.float.specs.Root.{sqrtOf}
 use Rattle.frame.specs.declared.Point.{Point}
 use Rattle.frame.specs.declared.Quad.{Quad}
 use Rattle.frame.specs.declared.Verdict.the-variants.{Accepted, Refused}
+use Rattle.homography.specs.Arithmetic.{Arithmetic, rounded}
 use Rattle.homography.specs.Equations.{identity}
 use Rattle.homography.specs.declared.Homography.{Homography}
 use Rattle.homography.specs.declared.Solved.{Solved}
@@ -18,9 +19,17 @@ use Rattle.homography.specs.declared.Solved.{Solved}
 abbrev pub at : List Float → ℕ → ℕ → Float
 at m i j = getD m (i * 3 + j) nan
 
+-- row i of a matrix, whose entries are m 0 .. m 8 by rows, times (x, y, 1)
+abbrev pub line : {A : Type 0} → Arithmetic A → (ℕ → A) → ℕ → A → A → A
+line N m i x y = N .plus (N .plus (N .times (m (i * 3 + 0)) x) (N .times (m (i * 3 + 1)) y)) (m (i * 3 + 2))
+
+-- the entries of a Homography
+abbrev pub entries : Homography → ℕ → Float
+entries h i = getD (h .m) i nan
+
 -- row i times (x, y, 1)
 unfoldable pub rowTimes : Homography → ℕ → Point → Float
-rowTimes h i p = at (h .m) i 0 ⊗ p .x ⊕ at (h .m) i 1 ⊗ p .y ⊕ at (h .m) i 2
+rowTimes h i p = line rounded (entries h) i (p .x) (p .y)
 
 -- "`apply` replaces a |w| below 1e-12 by +1e-12"
 unfoldable pub divisor : Float → Float

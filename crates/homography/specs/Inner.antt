@@ -1,5 +1,5 @@
--- What contracts of private functions cite beside the definitions: the eight equations as they are written one by one, zeros where there is no solution,
--- and a matrix as it is filled. Assumes nothing.
+-- What contracts of private functions cite beside the definitions: the eight equations as they are written one by one,
+-- zeros where there is no solution, and a matrix as it is filled. Assumes nothing.
 use mathlib.Core.Bool.{cond}
 use mathlib.Core.List.{List}
 use Prim.Native.Nat.{ℕ, _+_, _*_}
@@ -8,7 +8,9 @@ use lib.Ieee.{Float, nan}
 use Rattle.base.specs.Loops.{turns, filled}
 use Rattle.float.specs.Floats.{_⊖_, _⊗_, f64}
 use Rattle.frame.specs.declared.Point.{Point}
-use Rattle.homography.specs.Equations.{rowX, rowY, solvable, solution}
+use Rattle.homography.specs.Arithmetic.{rounded}
+use Rattle.homography.specs.Elimination.{solvable, solution}
+use Rattle.homography.specs.Equations.{rowX, rowY}
 
 abbrev pub rowAt : ℕ → List Float → ℕ → List Float → List Float
 rowAt r row j b = set b (r * 9 + j) (getD row j nan)
@@ -20,7 +22,7 @@ unfoldable pub pointSet : ℕ → Point → Point → List Float → List Float
 pointSet i p q a = rowSet (2 * i + 1) (rowY p q) (rowSet (2 * i) (rowX p q) a)
 
 unfoldable pub unknowns : List Float → List Float
-unknowns a = cond (solvable a) (solution a) (replicate 8 (f64 0))
+unknowns a = cond (solvable rounded a) (solution rounded a) (replicate 8 (f64 0))
 
 -- the eight unknowns with 1 behind them
 unfoldable pub withOne : List Float → List Float

@@ -1,92 +1,141 @@
--- The direct linear transform over exact whole numbers (Hartley and Zisserman, Multiple View Geometry, 4.1): what the eight rows are for. The rows are
--- those of Equations, over ℤ in place of f64. Assumes nothing.
+-- What the eight equations are for (Hartley and Zisserman, Multiple View Geometry, 4.1): over exact numbers they hold
+-- exactly when the matrix takes each of the four points to its own target. The equations, the elimination and the
+-- lines of the matrix are the definitions that the contracts cite over f64. Assumes nothing.
 use mathlib.Core.Path.{_≡_}
-use mathlib.Core.List.{List, [], _∷_}
-use mathlib.Core.Bool.{Bool, true, false}
+use mathlib.Core.List.{List, map}
+use mathlib.Core.Bool.{Bool, true}
 use mathlib.Core.Logic.{_↔_}
-use Prim.Native.Nat.{ℕ, _^_, _≤_, _<_}
-use lib.IntN.{ℤ, pos, negℤ, natAbs, _+ℤ_, _*ℤ_}
+use Prim.Native.Nat.{ℕ, zero, suc, _^_, _≤_, _<_}
 use lib.Ieee.{Float}
 use lib.Ieee.Exact.{HasValue}
-use lib.ListN.{getD}
+use lib.ListN.{length, getD}
+use Rattle.float.specs.Floats.{_⊘_}
 use Rattle.frame.specs.declared.Point.{Point}
-use Rattle.homography.specs.Equations.{rowU, rowV, rowX, rowY}
+use Rattle.frame.specs.declared.Quad.{Quad}
+use Rattle.homography.specs.declared.Homography.{Homography}
+use Rattle.homography.specs.Arithmetic.{Arithmetic, rounded, CommutativeRing, Field}
+use Rattle.homography.specs.Elimination.{entry, solvable, solution}
+use Rattle.homography.specs.Equations.{equationsOver, homographyOver, equations}
+use Rattle.homography.specs.Homography.{line, entries, divisor, apply}
+use Rattle.homography.specs.Rationals.{ℚ, 0ℚ, 1ℚ, exact, AllFinite, valueOf}
 
-abbrev pub 0ℤ : ℤ
-0ℤ = pos 0
+module _ {A : Type 0} (N : Arithmetic A) where
+  -- t 0 + t 1 + .. + t (n − 1)
+  unfoldable pub total : (ℕ → A) → ℕ → A
+  total t zero = N .nought
+  total t (suc n) = N .plus (total t n) (t n)
 
-abbrev pub 1ℤ : ℤ
-1ℤ = pos 1
+  -- row r holds for h: its eight coefficients times h 0 .. h 7 add up to its last entry
+  abbrev pub RowHolds : List A → (ℕ → A) → ℕ → Type 0
+  RowHolds a h r = total (λ j. N .times (entry N a r j) (h j)) 8 ≡ entry N a r 8
 
--- a point with whole coordinates
-pub record Exact : Type 0 where
-  pub x : ℤ
-  pub y : ℤ
+  abbrev pub EightHold : List A → (ℕ → A) → Type 0
+  EightHold a h = (r : ℕ) → r < 8 → RowHolds a h r
 
--- the two rows of the point p that goes to q
-abbrev pub exactU : ℤ → ℤ → ℤ → List ℤ
-exactU = rowU 0ℤ 1ℤ negℤ _*ℤ_
+  module _ (num : Float → A) (m : ℕ → A) where
+    -- The matrix m, nine entries by rows, takes p to q in homogeneous coordinates: (X, Y, W) with X = u·W and Y = v·W,
+    -- cross-multiplied, so that nothing is divided. A p with X = Y = W = 0 satisfies them too, whatever q is: such a
+    -- matrix is singular, and no quotient X / W is then q.
+    abbrev pub Takes : Point → Point → Type 0
+    Takes p q =
+        (line N m 0 (num (p .x)) (num (p .y)) ≡ N .times (num (q .x)) (line N m 2 (num (p .x)) (num (p .y))))
+        × (line N m 1 (num (p .x)) (num (p .y)) ≡ N .times (num (q .y)) (line N m 2 (num (p .x)) (num (p .y))))
 
-abbrev pub exactV : ℤ → ℤ → ℤ → List ℤ
-exactV = rowV 0ℤ 1ℤ negℤ _*ℤ_
+    -- .. and each of the four to its own target
+    abbrev pub TakesEach : Quad → Quad → Type 0
+    TakesEach src dst =
+        Takes (src .tl) (dst .tl) × Takes (src .tr) (dst .tr)
+        × Takes (src .br) (dst .br) × Takes (src .bl) (dst .bl)
 
--- the row's eight coefficients times h 0 .. h 7 add up to its last entry
-abbrev pub Holds : List ℤ → (ℕ → ℤ) → Type 0
-Holds row h =
-    getD row 0 0ℤ *ℤ h 0 +ℤ getD row 1 0ℤ *ℤ h 1 +ℤ getD row 2 0ℤ *ℤ h 2 +ℤ getD row 3 0ℤ *ℤ h 3 +ℤ getD row 4 0ℤ *ℤ h 4 +ℤ getD row 5 0ℤ *ℤ h 5 +ℤ getD row 6 0ℤ *ℤ h 6 +ℤ getD row 7 0ℤ *ℤ h 7
-    ≡ getD row 8 0ℤ
-
--- a row (a, b, c) of a matrix times (x, y, 1)
-abbrev pub line : ℤ → ℤ → ℤ → ℤ → ℤ → ℤ
-line a b c x y = a *ℤ x +ℤ b *ℤ y +ℤ c
-
--- The matrix h 0 .. h 7 with last entry 1 takes p to q in homogeneous coordinates: (X, Y, W) with X = u·W and Y = v·W, cross-multiplied, so that nothing is
--- divided. A p with X = Y = W = 0 satisfies them too, whatever q is: such a matrix is singular, and no quotient X / W is then q.
-abbrev pub Takes : (ℕ → ℤ) → Exact → Exact → Type 0
-Takes h p q =
-    (line (h 0) (h 1) (h 2) (p .x) (p .y) ≡ q .x *ℤ line (h 6) (h 7) 1ℤ (p .x) (p .y))
-    × (line (h 3) (h 4) (h 5) (p .x) (p .y) ≡ q .y *ℤ line (h 6) (h 7) 1ℤ (p .x) (p .y))
-
--- both rows of the point hold
-abbrev pub BothHold : (ℕ → ℤ) → Exact → Exact → Type 0
-BothHold h p q = Holds (exactU (p .x) (p .y) (q .x)) h × Holds (exactV (p .x) (p .y) (q .y)) h
-
--- "The eight equations are the direct linear transform with last entry 1": they hold for h exactly when the matrix takes each of the four points to its
--- target. proofs/Transform shows it for every h and all points.
-abbrev pub TransformIs : Type 0
+-- "The eight equations are the direct linear transform with last entry 1": over exact numbers, of the 72 entries of
+-- the equations, the eight rows hold for a matrix with last entry 1 exactly when it takes each source to its own
+-- target. num reads a coordinate. proofs/Transform shows it.
+abbrev pub TransformIs : Type 1
 TransformIs =
-    (h : ℕ → ℤ) (src dst : ℕ → Exact)
-    → ((i : ℕ) → i < 4 → BothHold h (src i) (dst i)) ↔ ((i : ℕ) → i < 4 → Takes h (src i) (dst i))
+    (A : Type 0) (N : Arithmetic A) → CommutativeRing N
+    → (num : Float → A) (src dst : Quad) (m : ℕ → A) → m 8 ≡ N .one
+    → EightHold N (equationsOver N num src dst) m ↔ TakesEach N num m src dst
 
--- ---- The float equations are the image of these rows, entry by entry
+-- The rationals are such numbers, and every finite f64 is one of them: so it holds for the exact values of any finite
+-- coordinates and any rational matrix.
+abbrev pub RationalTransformIs : Type 0
+RationalTransformIs =
+    (prefers : ℚ → ℚ → Bool) (refuses : ℚ → Bool)
+    → let N = exact prefers refuses in
+    (src dst : Quad) (m : ℕ → ℚ) → m 8 ≡ 1ℚ
+    → EightHold N (equationsOver N valueOf src dst) m ↔ TakesEach N valueOf m src dst
 
--- s n is n or -n
-abbrev pub signed : Bool → ℕ → ℤ
-signed false n = pos n
-signed true n = negℤ (pos n)
+-- ---- the elimination
 
--- the float x is the whole number z exactly; a zero of either sign is 0
-pub record Whole (x : Float) (z : ℤ) : Type 0 where
+-- Over a field, where no pivot is refused, every row holds for the answer. proofs/Elimination shows it.
+abbrev pub EliminationSolves : Type 1
+EliminationSolves =
+    (A : Type 0) (N : Arithmetic A) → Field N → (a : List A) → length a ≡ 72 → solvable N a ≡ true
+    → EightHold N a (λ j. getD (solution N a) j (N .outside))
+
+-- So the matrix that `from_points` makes, without rounding, takes each source to its own target. proofs/Homographies
+-- shows it.
+abbrev pub HomographyTakes : Type 1
+HomographyTakes =
+    (A : Type 0) (N : Arithmetic A) → Field N → (num : Float → A) (src dst : Quad)
+    → solvable N (equationsOver N num src dst) ≡ true
+    → TakesEach N num (λ i. getD (homographyOver N num src dst) i (N .outside)) src dst
+
+-- .. among them the rationals, whichever row is preferred as pivot and whichever pivots are refused, if 0 is
+abbrev pub RationalHomographyTakes : Type 0
+RationalHomographyTakes =
+    (prefers : ℚ → ℚ → Bool) (refuses : ℚ → Bool) → refuses 0ℚ ≡ true
+    → let N = exact prefers refuses in
+    (src dst : Quad) → solvable N (equationsOver N valueOf src dst) ≡ true
+    → TakesEach N valueOf (λ i. getD (homographyOver N valueOf src dst) i 0ℚ) src dst
+
+-- Where W is not 0, the quotients are the target.
+abbrev pub QuotientsAre : Type 1
+QuotientsAre =
+    (A : Type 0) (N : Arithmetic A) → Field N → (num : Float → A) (m : ℕ → A) (p q : Point) → Takes N num m p q
+    → let w = line N m 2 (num (p .x)) (num (p .y)) in
+    ¬ (w ≡ N .nought)
+    → (N .over (line N m 0 (num (p .x)) (num (p .y))) w ≡ num (q .x))
+    × (N .over (line N m 1 (num (p .x)) (num (p .y))) w ≡ num (q .y))
+
+-- ---- `apply` and the layout of the answer
+
+-- `apply` divides the first two lines of the matrix by the third, which `divisor` keeps away from 0. They are the
+-- lines of `Takes`. proofs/Transform shows this and the next.
+abbrev pub AppliesLines : Type 0
+AppliesLines =
+    (h : Homography) (p : Point)
+    → let w = divisor (line rounded (entries h) 2 (p .x) (p .y)) in
+    apply h p
+    ≡ record { x = line rounded (entries h) 0 (p .x) (p .y) ⊘ w; y = line rounded (entries h) 1 (p .x) (p .y) ⊘ w }
+
+-- the matrix of `Takes`: unknown i is entry i, and the ninth is 1
+abbrev pub LaidOutByRows : Type 1
+LaidOutByRows =
+    (A : Type 0) (N : Arithmetic A) (num : Float → A) (src dst : Quad)
+    → ((i : ℕ) → i < 8
+    → getD (homographyOver N num src dst) i (N .outside) ≡ getD (solution N (equationsOver N num src dst)) i (N .outside))
+    × (getD (homographyOver N num src dst) 8 (N .outside) ≡ N .one)
+
+-- ---- The float equations have the values of the exact ones
+
+-- the float x is the whole number n or −n exactly, and not large
+pub record Whole (x : Float) : Type 0 where
   pub sign : Bool
   pub size : ℕ
   pub value : HasValue x sign size 1
-  pub is : z ≡ signed sign size
+  pub small : size ≤ 2 ^ 26
 
-abbrev pub Image : List Float → List ℤ → Type 0
-Image [] [] = Unit {0}
-Image [] (z ∷ k) = ⊥
-Image (x ∷ l) [] = ⊥
-Image (x ∷ l) (z ∷ k) = Whole x z × Image l k
+abbrev pub WholePoint : Point → Type 0
+WholePoint p = Whole (p .x) × Whole (p .y)
 
--- a point with whole coordinates of at most 2 ^ 26, whose products an f64 holds
-pub record WholePoint (p : Point) (e : Exact) : Type 0 where
-  pub x-whole : Whole (p .x) (e .x)
-  pub y-whole : Whole (p .y) (e .y)
-  pub x-small : natAbs (e .x) ≤ 2 ^ 26
-  pub y-small : natAbs (e .y) ≤ 2 ^ 26
+abbrev pub WholeQuad : Quad → Type 0
+WholeQuad q = WholePoint (q .tl) × WholePoint (q .tr) × WholePoint (q .br) × WholePoint (q .bl)
 
--- both rows that from_points writes for the point p, which goes to q, are the exact rows. proofs/Image shows it for all such points.
-abbrev pub RowsAre : Type 0
-RowsAre =
-    (p q : Point) (e f : Exact) → WholePoint p e → WholePoint q f
-    → Image (rowX p q) (exactU (e .x) (e .y) (f .x)) × Image (rowY p q) (exactV (e .x) (e .y) (f .y))
+-- Where the coordinates are whole and at most 2 ^ 26, whose products an f64 holds, no entry of the float equations is
+-- rounded. proofs/Image shows it.
+abbrev pub EquationsAre : Type 0
+EquationsAre =
+    (prefers : ℚ → ℚ → Bool) (refuses : ℚ → Bool) (src dst : Quad) → WholeQuad src → WholeQuad dst
+    → AllFinite (equations src dst)
+    × (map valueOf (equations src dst) ≡ equationsOver (exact prefers refuses) valueOf src dst)

@@ -19,10 +19,12 @@
 //     [ 0  0  0  x  y  1  -v x  -v y ] h = v.
 //
 // Four points give eight rows: the direct linear transform with last entry 1 (Hartley and Zisserman,
-// Multiple View Geometry, 4.1). proofs/Transform shows over whole numbers that the rows hold exactly
-// when the matrix takes each point to its target, and proofs/Image that the rows written here are
-// those where the coordinates are whole and small. The elimination rounds at every step, and the
-// contracts say what comes out to the bit.
+// Multiple View Geometry, 4.1). The rows, the elimination and the lines of the matrix are defined once,
+// over any arithmetic. The contracts cite them over f64, where every result is rounded, and say what
+// comes out to the bit. specs/Transform cites them over exact numbers, among them the rationals, of
+// which every finite f64 is one: there the eight rows hold exactly when the matrix takes each point to
+// its own target, and the matrix that the elimination gives, where it refuses no pivot, does so.
+// proofs/Image shows that no entry of the rows is rounded where the coordinates are whole and small.
 mod solve;
 
 use frame::Point;

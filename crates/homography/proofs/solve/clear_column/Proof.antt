@@ -5,13 +5,14 @@ use native.Mathlib.Omega.{arith}
 use borrow.Author.Needs.{needs}
 use Rattle.base.proofs.Turns.{turns-begin, turns-step, turns-end}
 use Rattle.base.specs.Loops.{turns}
-use Rattle.homography.specs.Equations.{clearAt}
+use Rattle.homography.specs.Arithmetic.{rounded}
+use Rattle.homography.specs.Elimination.{clearAt}
 use Rattle.homography.proofs.Steps.{column-cleared}
 use Rattle.homography.proofs.solve.clear_column.Statement.{statement}
 use Rattle.homography.proofs.solve.clear_column.Tie as tie
 
 abbrev Inv-loop : tie.InvT-loop
-Inv-loop a₀ col piv at d r₀ a r = (a ≡ turns r (clearAt col) a₀) × (r ≤ 8)
+Inv-loop a₀ col piv at d r₀ a r = (a ≡ turns r (clearAt rounded col) a₀) × (r ≤ 8)
 
 abbrev μ-loop : tie.MeasureT-loop
 μ-loop a₀ col piv at d r₀ a r = 8 - r

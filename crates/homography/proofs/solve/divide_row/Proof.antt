@@ -5,12 +5,13 @@ use native.Mathlib.Omega.{arith}
 use borrow.Author.Needs.{needs}
 use Rattle.base.proofs.Turns.{between-begin, between-step, between-end}
 use Rattle.base.specs.Loops.{between}
-use Rattle.homography.specs.Equations.{divided, divideAt}
+use Rattle.homography.specs.Arithmetic.{rounded}
+use Rattle.homography.specs.Elimination.{divided, divideAt}
 use Rattle.homography.proofs.solve.divide_row.Statement.{statement}
 use Rattle.homography.proofs.solve.divide_row.Tie as tie
 
 abbrev Inv-loop : tie.InvT-loop
-Inv-loop a₀ r col d j₀ a j = (a ≡ between col j (divideAt r d) a₀) × (col ≤ j) × (j ≤ 9)
+Inv-loop a₀ r col d j₀ a j = (a ≡ between col j (divideAt rounded r d) a₀) × (col ≤ j) × (j ≤ 9)
 
 abbrev μ-loop : tie.MeasureT-loop
 μ-loop a₀ r col d j₀ a j = 9 - j

@@ -6,13 +6,14 @@ use lib.Ieee.{ofBits, ofInt}
 use borrow.Author.Needs.{needs}
 use Rattle.base.proofs.Plane.{filled-begin, filled-step, filled-end}
 use Rattle.base.specs.Loops.{filled}
-use Rattle.homography.specs.Equations.{entry, lastColumn}
+use Rattle.homography.specs.Arithmetic.{rounded}
+use Rattle.homography.specs.Elimination.{entry, lastColumn}
 use Rattle.homography.proofs.Rows.{column-filled}
 use Rattle.homography.proofs.solve.last_column.Statement.{statement}
 use Rattle.homography.proofs.solve.last_column.Tie as tie
 
 abbrev Inv-loop : tie.InvT-loop
-Inv-loop a h₀ r₀ h r = (h ≡ filled (λ i. entry a i 8) r h₀) × (r ≤ 8)
+Inv-loop a h₀ r₀ h r = (h ≡ filled (λ i. entry rounded a i 8) r h₀) × (r ≤ 8)
 
 abbrev μ-loop : tie.MeasureT-loop
 μ-loop a h₀ r₀ h r = 8 - r

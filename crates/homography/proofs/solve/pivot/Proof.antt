@@ -9,12 +9,13 @@ use Rattle.base.proofs.Turns.{between-begin, between-step, between-end}
 use Rattle.base.specs.Loops.{between}
 use Rattle.float.specs.Floats.{absOf}
 use Rattle.homography.proofs.Steps.{better-yes, better-no}
-use Rattle.homography.specs.Equations.{entry, pivotOf, better}
+use Rattle.homography.specs.Arithmetic.{rounded}
+use Rattle.homography.specs.Elimination.{entry, pivotOf, better}
 use Rattle.homography.proofs.solve.pivot.Statement.{statement}
 use Rattle.homography.proofs.solve.pivot.Tie as tie
 
 abbrev Inv-loop : tie.InvT-loop
-Inv-loop a col piv₀ r₀ piv r = (piv ≡ between (col + 1) r (better a col) col) × (col + 1 ≤ r) × (r ≤ 8) × (piv < 8)
+Inv-loop a col piv₀ r₀ piv r = (piv ≡ between (col + 1) r (better rounded a col) col) × (col + 1 ≤ r) × (r ≤ 8) × (piv < 8)
 
 abbrev μ-loop : tie.MeasureT-loop
 μ-loop a col piv₀ r₀ piv r = 8 - r
@@ -68,8 +69,8 @@ loop-again c =
     let col = at .before .args .col in
     let x = c .before .before .before .abs in
     let y = c .before .abs2 in
-    let test : lt (absOf (entry a (at .loop .piv) col)) (absOf (entry a (at .loop .r) col)) ≡ lt (y .result) (x .result) =
-    ap (λ z. lt z (absOf (entry a (at .loop .r) col))) (sym (y .ensures)) ∙ ap (lt (y .result)) (sym (x .ensures))
+    let test : lt (absOf (entry rounded a (at .loop .piv) col)) (absOf (entry rounded a (at .loop .r) col)) ≡ lt (y .result) (x .result) =
+    ap (λ z. lt z (absOf (entry rounded a (at .loop .r) col))) (sym (y .ensures)) ∙ ap (lt (y .result)) (sym (x .ensures))
     in
     let step = between-step _ _ _ (at .loop .r) (at .loop .inv .1) (at .loop .inv .0) in
     let low : col + 1 ≤ at .loop .r + 1 = omega arith in

@@ -8,12 +8,13 @@ use borrow.Author.Needs.{needs}
 use Rattle.base.proofs.Pick.{pick-yes, pick-no}
 use Rattle.base.proofs.Turns.{between-begin, between-step, between-end}
 use Rattle.base.specs.Loops.{between}
-use Rattle.homography.specs.Equations.{reduced, reduceAt}
+use Rattle.homography.specs.Arithmetic.{rounded}
+use Rattle.homography.specs.Elimination.{reduced, reduceAt}
 use Rattle.homography.proofs.solve.reduce_row.Statement.{statement}
 use Rattle.homography.proofs.solve.reduce_row.Tie as tie
 
 abbrev Inv-loop : tie.InvT-loop
-Inv-loop a₀ r col at f j₀ a j = (a ≡ between col j (reduceAt r col f) a₀) × (col ≤ j) × (j ≤ 9)
+Inv-loop a₀ r col at f j₀ a j = (a ≡ between col j (reduceAt rounded r col f) a₀) × (col ≤ j) × (j ≤ 9)
 
 abbrev μ-loop : tie.MeasureT-loop
 μ-loop a₀ r col at f j₀ a j = 9 - j

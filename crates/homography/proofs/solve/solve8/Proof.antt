@@ -8,13 +8,14 @@ use borrow.Author.Needs.{needs}
 use Rattle.base.proofs.Turns.{turns-begin, turns-step, turns-end}
 use Rattle.base.specs.Loops.{turns}
 use Rattle.float.specs.Floats.{absOf, tiny, d64}
-use Rattle.homography.specs.Equations.{entry, eliminate, eliminated, noPivot}
+use Rattle.homography.specs.Arithmetic.{rounded}
+use Rattle.homography.specs.Elimination.{entry, eliminate, eliminated, noPivot}
 use Rattle.homography.proofs.Steps.{on, goes, halted, finished}
 use Rattle.homography.proofs.solve.solve8.Statement.{statement}
 use Rattle.homography.proofs.solve.solve8.Tie as tie
 
 abbrev Inv-loop : tie.InvT-loop
-Inv-loop a₀ col₀ a col = (on a ≡ turns col eliminate (on a₀)) × (col ≤ 8)
+Inv-loop a₀ col₀ a col = (on a ≡ turns col (eliminate rounded) (on a₀)) × (col ≤ 8)
 
 abbrev μ-loop : tie.MeasureT-loop
 μ-loop a₀ col₀ a col = 8 - col
@@ -44,8 +45,8 @@ returns : tie.Need-returns Inv-loop μ-loop
 unfolding noPivot ofBits ofInt d64 round
 returns c =
     let l = c .before .before .before .before .before .loop in
-    let r : noPivot (l .a) (l .col) ≡ true =
-    ap (λ p. lt (absOf (entry (l .a) p (l .col))) tiny) (sym (c .before .before .pivot .ensures .0))
+    let r : noPivot rounded (l .a) (l .col) ≡ true =
+    ap (λ p. lt (absOf (entry rounded (l .a) p (l .col))) tiny) (sym (c .before .before .pivot .ensures .0))
     ∙ ap (λ x. lt x tiny) (sym (c .before .abs .ensures))
     ∙ c .if1 .taken
     in
@@ -64,8 +65,8 @@ loop-again : tie.Need-loop-again Inv-loop μ-loop
 unfolding noPivot ofBits d64 round
 loop-again c =
     let l = c .before .before .before .before .before .before .before .loop in
-    let r : noPivot (l .a) (l .col) ≡ false =
-    ap (λ p. lt (absOf (entry (l .a) p (l .col))) tiny) (sym (c .before .before .before .before .pivot .ensures .0))
+    let r : noPivot rounded (l .a) (l .col) ≡ false =
+    ap (λ p. lt (absOf (entry rounded (l .a) p (l .col))) tiny) (sym (c .before .before .before .before .pivot .ensures .0))
     ∙ ap (λ x. lt x tiny) (sym (c .before .before .before .abs .ensures))
     ∙ c .before .before .if1 .left
     in

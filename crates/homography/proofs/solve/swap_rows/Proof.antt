@@ -5,12 +5,13 @@ use native.Mathlib.Omega.{arith}
 use borrow.Author.Needs.{needs}
 use Rattle.base.proofs.Turns.{turns-begin, turns-step, turns-end}
 use Rattle.base.specs.Loops.{turns}
-use Rattle.homography.specs.Equations.{swapped, swapAt}
+use Rattle.homography.specs.Arithmetic.{rounded}
+use Rattle.homography.specs.Elimination.{swapped, swapAt}
 use Rattle.homography.proofs.solve.swap_rows.Statement.{statement}
 use Rattle.homography.proofs.solve.swap_rows.Tie as tie
 
 abbrev Inv-loop : tie.InvT-loop
-Inv-loop a₀ p q j₀ a j = (a ≡ turns j (swapAt p q) a₀) × (j ≤ 9)
+Inv-loop a₀ p q j₀ a j = (a ≡ turns j (swapAt rounded p q) a₀) × (j ≤ 9)
 
 abbrev μ-loop : tie.MeasureT-loop
 μ-loop a₀ p q j₀ a j = 9 - j
