@@ -48,7 +48,8 @@ column w q = q % w
 abbrev pub row : ℕ → ℕ → ℕ
 row w q = q / w
 
--- "A patch is a whole class. Each record has area, sum of x, sum of y, and box x0, y0, x1, y1": t is the record of the class of the pixel a
+-- "A patch is a whole class." "Each record has area, sum of x, sum of y, and box x0, y0, x1, y1." t is the record of the
+-- class of the pixel a
 pub record PatchOf (m : List ℕ) (w a : ℕ) (t : Blob) : Type 0 where
   pub marks : ℕ → ℕ
   pub marked : Marks marks (Joined m w a)

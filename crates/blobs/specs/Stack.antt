@@ -28,7 +28,7 @@ stackOf k (suc t) = getD k t 0 ∷ stackOf k t
 unfoldable pub look : List ℕ → ℕ → Marking → Marking
 look m q a = cond (eqb (getD m q 0) 0) a (cond (eqb (getD (a .seen) q 0) 0) (marking (set (a .seen) q 1) (q ∷ a .waiting)) a)
 
--- the neighbours of p: "left, right, up, down" (the mask's length is that of whole rows of w)
+-- the neighbours of p: left, right, up, down (the mask's length is that of whole rows of w)
 unfoldable pub lookLeft : List ℕ → ℕ → ℕ → Marking → Marking
 lookLeft m w p a = cond (ltb 0 (p % w)) (look m (p - 1) a) a
 

@@ -1,15 +1,26 @@
 -- What a look finds is decided by the capture and the frame: "no answer depends on prior work-area contents". Assumes nothing.
-use Prim.Native.Nat.{ℕ, _<_}
-use mathlib.Core.Path.{_≡_, sym, subst, _∙_}
+use Prim.Native.Nat.{ℕ, _≤_, _<_}
+use mathlib.Core.Path.{_≡_, sym, ap, subst, _∙_}
+use mathlib.Core.List.{List}
+use lib.Ieee.{nan}
+use lib.ListN.{length, take}
+use Rattle.base.specs.Loops.{filled}
+use Rattle.base.proofs.Table.{take-filled}
 use Rattle.frame.specs.Image.{Image}
 use Rattle.frame.specs.declared.FrameSpec.{FrameSpec}
 use Rattle.sampling.specs.Luma.{lumaPlane}
 use Rattle.mask.specs.Mask.{maskPlane}
 use Rattle.blobs.specs.Patches.{patchAt}
-use Rattle.candidates.specs.Areas.{Areas}
+use Rattle.candidates.specs.Agreement.{SameLook}
+use Rattle.candidates.specs.Areas.{Areas, pixels, integralLength}
+use Rattle.candidates.specs.Bounds.{Ready}
 use Rattle.candidates.specs.Doors.{Looked}
 use Rattle.candidates.specs.Ring.{candidateAt, CandidateList}
 use Rattle.candidates.proofs.Unique.{list-number, list-records, candidates-number, candidates-records}
+
+-- a plane, from two areas that held other things
+plane : {A : Type 0} (g : ℕ → A) (n : ℕ) (d : A) (x x′ : List A) {y y′ : List A} → y ≡ filled g n x → y′ ≡ filled g n x′ → n ≤ length x → n ≤ length x′ → take n y ≡ take n y′
+plane g n d x x′ p p′ l l′ = ap (take n) p ∙ take-filled g n d x l ∙ sym (ap (take n) p′ ∙ take-filled g n d x′ l′)
 
 module _ (img : Image) (f : FrameSpec) (a b a′ b′ : Areas) (n k deep n′ k′ deep′ : ℕ) (h : Looked img f a b n k deep) (h′ : Looked img f a′ b′ n′ k′ deep′) where
   pub same-patches : n ≡ n′
@@ -31,3 +42,15 @@ module _ (img : Image) (f : FrameSpec) (a b a′ b′ : Areas) (n k deep n′ k�
   -- centre, score, size and place
   pub same-candidate : (i : ℕ) → i < k → candidateAt (b .candidates) (b .«blob_index») i ≡ candidateAt (b′ .candidates) (b′ .«blob_index») i
   same-candidate i l = candidates-records (maskPlane img f) (lumaPlane img) (img .w) (img .h) (h .candidates) others same-patch i l
+
+  -- all of it, where the areas are long enough
+  pub same-look : Ready img f a → Ready img f a′ → SameLook img b b′ n k
+  same-look R R′ =
+      record {
+        luma = plane _ (pixels img) nan _ _ (h .luma) (h′ .luma) (R .luma-room) (R′ .luma-room);
+        integral = plane _ (integralLength img) nan _ _ (h .integral) (h′ .integral) (R .integral-room) (R′ .integral-room);
+        mask = plane _ (pixels img) 0 _ _ (h .mask) (h′ .mask) (R .mask-room) (R′ .mask-room);
+        seen = plane _ (pixels img) 0 _ _ (h .seen) (h′ .seen) (R .seen-room) (R′ .seen-room);
+        patches = same-patch;
+        candidates = same-candidate;
+      }

@@ -8,7 +8,8 @@ pub mod Rules
 pub mod Listing
 pub mod Enumerations
 pub mod Unique
+pub mod Refusing
 pub mod Looks
 pub mod Room
-pub mod Examples
+pub mod Marked
 pub mod Determined

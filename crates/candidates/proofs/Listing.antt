@@ -163,7 +163,7 @@ module _ (m : List ℕ) (luma : List Float) (w h : ℕ) (t : ℕ → Blob) where
       (list-passed-over H y))))
       (either (passes m luma w h (t n)))
 
-  -- ---- "at most ⌊w·h/32⌋": each candidate has an area of 32 or more
+  -- ---- at most ⌊w·h/32⌋ candidates: each has an area of 32 or more
 
   abbrev pub areas : ℕ → ℕ
   areas n = total (λ j. t j .area) one n

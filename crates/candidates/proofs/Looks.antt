@@ -1,25 +1,18 @@
 -- A look at the picture, from what its parts leave. Assumes nothing.
 use Prim.Native.Nat.{ℕ, zero, suc, _*_, _/_, _%_, _≤_, _<_, min}
 use mathlib.Core.Path.{_≡_, refl, sym, ap, subst, _∙_}
-use mathlib.Core.Bool.{Bool, true, false, cond, _||_}
-use mathlib.Core.Logic.{inl, inr}
+use mathlib.Core.Bool.{Bool, true, false, cond}
 use mathlib.Core.List.{List}
 use native.Mathlib.Omega.{arith}
-use borrow.Author.Tests.{ltb-false}
-use lib.Dec.{T, ltb}
 use lib.ListN.{length, take}
 use lib.Ieee.{Float, nan}
 use Rattle.base.specs.Loops.{filled, byRow}
 use Rattle.base.proofs.Plane.{length-filled, filled-at, filled-past, filled-is}
 use Rattle.base.proofs.Table.{length-table, table-at, take-filled}
 use Rattle.frame.specs.Image.{Image}
-use Rattle.frame.specs.Refusals.{lowestOf, verdictOf, frameOutside, captureWrong, captureSmall}
+use Rattle.frame.specs.Refusals.{lowestOf, verdictOf}
 use Rattle.frame.specs.declared.FrameSpec.{FrameSpec}
 use Rattle.frame.specs.declared.Verdict.the-variants.{Accepted, Refused}
-use Rattle.frame.proofs.Held.{frame-held, capture-held}
-use Rattle.frame.proofs.Lowest.{Rising, none-tested}
-use Rattle.frame.proofs.Tests.{or-left, or-right}
-use Rattle.markers.specs.Layout.{noLayout}
 use Rattle.sampling.specs.Luma.{lumaAt, lumaPlane}
 use Rattle.mask.specs.Mask.{maskEntry, maskPlane, isDark, radius}
 use Rattle.mask.specs.Planes.{Planes}
@@ -27,91 +20,13 @@ use Rattle.blobs.specs.Labels.{Labels}
 use Rattle.blobs.specs.Patches.{ink, patchAt}
 use Rattle.blobs.specs.declared.Blob.{Blob}
 use Rattle.candidates.specs.Ring.{CandidateList}
-use Rattle.candidates.specs.Areas.{Areas, areas, lengthsOf, smallest, shorter, testsBy, lookTests}
+use Rattle.candidates.specs.Areas.{Areas, areas, areaShort, lookTests}
 use Rattle.candidates.specs.Bounds.{PlanesHeld, Listable, Ready}
 use Rattle.candidates.specs.Doors.{Looked}
-use Rattle.candidates.specs.declared.Lengths.{Lengths}
-
--- ---- from the tests to what the callees ask
-
-fails : (b : Bool) → (T b → ⊥) → b ≡ false
-fails true f = absurd (f tt)
-fails false f = refl
-
-pub tests-rising : (img : Image) (f : FrameSpec) (l : Lengths) → Rising 0 (testsBy img f l)
-unfolding testsBy
-tests-rising img f l = (omega arith, (omega arith, (omega arith, (omega arith, (omega arith, tt)))))
-
--- no area is shorter
-pub record Long (l s : Lengths) : Type 0 where
-  pub luma : s .luma ≤ l .luma
-  pub integral : s .integral ≤ l .integral
-  pub mask : s .mask ≤ l .mask
-  pub seen : s .seen ≤ l .seen
-  pub waiting : s .waiting ≤ l .waiting
-  pub patches : s .patches ≤ l .patches
-  pub candidates : s .candidates ≤ l .candidates
-  pub places : s .«blob_index» ≤ l .«blob_index»
-
-pub long-enough : (l s : Lengths) → shorter l s ≡ false → Long l s
-unfolding shorter
-long-enough l s e =
-    let t1 = ltb (l .luma) (s .luma) in
-    let t2 = ltb (l .integral) (s .integral) in
-    let t3 = ltb (l .mask) (s .mask) in
-    let t4 = ltb (l .seen) (s .seen) in
-    let t5 = ltb (l .waiting) (s .waiting) in
-    let t6 = ltb (l .patches) (s .patches) in
-    let t7 = ltb (l .candidates) (s .candidates) in
-    let t8 = ltb (l .«blob_index») (s .«blob_index») in
-    let e7 = or-left (t1 || t2 || t3 || t4 || t5 || t6 || t7) t8 e in
-    let e6 = or-left (t1 || t2 || t3 || t4 || t5 || t6) t7 e7 in
-    let e5 = or-left (t1 || t2 || t3 || t4 || t5) t6 e6 in
-    let e4 = or-left (t1 || t2 || t3 || t4) t5 e5 in
-    let e3 = or-left (t1 || t2 || t3) t4 e4 in
-    let e2 = or-left (t1 || t2) t3 e3 in
-    record {
-      luma = ltb-false _ _ (or-left t1 t2 e2);
-      integral = ltb-false _ _ (or-right t1 t2 e2);
-      mask = ltb-false _ _ (or-right (t1 || t2) t3 e3);
-      seen = ltb-false _ _ (or-right (t1 || t2 || t3) t4 e4);
-      waiting = ltb-false _ _ (or-right (t1 || t2 || t3 || t4) t5 e5);
-      patches = ltb-false _ _ (or-right (t1 || t2 || t3 || t4 || t5) t6 e6);
-      candidates = ltb-false _ _ (or-right (t1 || t2 || t3 || t4 || t5 || t6) t7 e7);
-      places = ltb-false _ _ (or-right (t1 || t2 || t3 || t4 || t5 || t6 || t7) t8 e);
-    }
-
--- where 1, 2, 3, 5 and 6 do not apply, a look has what it asks
-pub ready-of : (img : Image) (f : FrameSpec) (a : Areas) → frameOutside f ≡ false → captureWrong img ≡ false → shorter (lengthsOf a) (smallest (img .w) (img .h)) ≡ false → noLayout f ≡ false → captureSmall img ≡ false → Ready img f a
-unfolding smallest captureSmall
-ready-of img f a e1 e2 e3 e5 e6 =
-    let long = long-enough (lengthsOf a) (smallest (img .w) (img .h)) e3 in
-    record {
-      frame = frame-held f e1;
-      capture = capture-held img e2;
-      layout = e5;
-      wide = ltb-false _ _ (or-left (ltb (img .w) 32) (ltb (img .h) 32) e6);
-      high = ltb-false _ _ (or-right (ltb (img .w) 32) (ltb (img .h) 32) e6);
-      luma-room = long .luma;
-      integral-room = long .integral;
-      mask-room = long .mask;
-      seen-room = long .seen;
-      waiting-room = long .waiting;
-      patches-room = long .patches;
-      candidates-room = long .candidates;
-      places-room = long .places;
-    }
+use Rattle.candidates.proofs.Refusing.{clear, ready-of}
 
 pub ready : (img : Image) (f : FrameSpec) (a : Areas) → lowestOf (lookTests img f a) ≡ 0 → Ready img f a
-unfolding testsBy
-ready img f a e =
-    let none = none-tested (lookTests img f a) (tests-rising img f (lengthsOf a)) e in
-    ready-of img f a
-    (fails _ (λ t. none 1 (inl (refl, t))))
-    (fails _ (λ t. none 2 (inr (inl (refl, t)))))
-    (fails _ (λ t. none 3 (inr (inr (inl (refl, t))))))
-    (fails _ (λ t. none 5 (inr (inr (inr (inl (refl, t)))))))
-    (fails _ (λ t. none 6 (inr (inr (inr (inr (inl (refl, t))))))))
+ready img f a e = let c = clear img f (areaShort img a) false e in ready-of img f a c (c .long)
 
 -- ---- the parts put together
 
@@ -197,6 +112,7 @@ module _ (img : Image) (f : FrameSpec) (a : Areas) (R : Ready img f a) where
         patches = L .records;
         candidates = C;
         waited = L .waited;
+        patches-are = L .blobs;
         waited-is = L .most-is;
         waiting-long = L .waiting-long;
         waiting-rest = L .waiting-rest;

@@ -1,6 +1,6 @@
 -- What is lent for a look at the picture, and refusal 3. Assumes nothing.
 use Prim.Native.Nat.{ℕ, _+_, _*_, _/_}
-use mathlib.Core.Bool.{Bool, _||_}
+use mathlib.Core.Bool.{Bool, false, _||_}
 use mathlib.Core.List.{List, [], _∷_}
 use lib.Dec.{ltb}
 use lib.ListN.{length}
@@ -83,15 +83,19 @@ shorter l s =
 abbrev pub areaShort : Image → Areas → Bool
 areaShort img a = shorter (lengthsOf a) (smallest (img .w) (img .h))
 
--- `fiducial_candidates`, `detect_fiducials`; the areas by their lengths
-unfoldable pub testsBy : Image → FrameSpec → Lengths → List Check
-testsBy img f l =
+-- ---- the tests of a call on a picture: "The lowest number that applies is given, and each call makes the checks that
+-- concern what it is handed". short: a work area of the call is too short; wrong: its canonical image is not of the right
+-- length, false where it is handed none
+unfoldable pub pictureTests : Image → FrameSpec → Bool → Bool → List Check
+pictureTests img f short wrong =
     check 1 (frameOutside f)
     ∷ check 2 (captureWrong img)
-    ∷ check 3 (shorter l (smallest (img .w) (img .h)))
+    ∷ check 3 short
+    ∷ check 4 wrong
     ∷ check 5 (noLayout f)
     ∷ check 6 (captureSmall img)
     ∷ []
 
+-- `fiducial_candidates`, `detect_fiducials`
 abbrev pub lookTests : Image → FrameSpec → Areas → List Check
-lookTests img f a = testsBy img f (lengthsOf a)
+lookTests img f a = pictureTests img f (areaShort img a) false

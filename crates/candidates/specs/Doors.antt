@@ -3,20 +3,21 @@ use Prim.Native.Nat.{ℕ, _≤_}
 use mathlib.Core.Path.{_≡_}
 use mathlib.Core.List.{List}
 use lib.ListN.{length, drop}
-use Rattle.base.specs.Loops.{filled}
+use Rattle.base.specs.Loops.{table, filled}
 use Rattle.frame.specs.Image.{Image}
 use Rattle.frame.specs.Refusals.{verdictOf, lowestOf}
 use Rattle.sampling.specs.Luma.{lumaAt, lumaPlane}
 use Rattle.mask.specs.Mask.{integralEntry, maskEntry, maskPlane}
 use Rattle.blobs.specs.Patches.{patchAt, Waited, PatchList}
-use Rattle.blobs.specs.Stack.{mostWaiting}
+use Rattle.blobs.specs.Stack.{scanAll, mostWaiting}
 use Rattle.candidates.specs.Ring.{CandidateList}
 use Rattle.candidates.specs.Areas.{Areas, pixels, integralLength, lookTests}
 use Rattle.frame.specs.declared.FrameSpec.{FrameSpec}
 use Rattle.frame.specs.declared.Verdict.{Verdict}
 
--- ---- the planes and lists after a look at the picture that found n patches and k candidates, with at most deep pixels waiting: "after 7 to 10 of a
--- rectification, or of `detect_fiducials` or `fit_geometry`", and "acceptance leaves the same planes, marks and records"
+-- ---- the planes and lists after a look at the picture that found n patches and k candidates, with at most deep pixels
+-- waiting: "After 7 to 10 of a rectification, or of `detect_fiducials` or `fit_geometry`", and "Acceptance leaves the same
+-- planes, marks and records."
 pub record Looked (img : Image) (f : FrameSpec) (a b : Areas) (n k deep : ℕ) : Type 0 where
   -- "luma, integral and mask hold their planes"; "entries past these lengths, are unchanged"
   pub luma : b .luma ≡ filled (lumaAt img) (pixels img) (a .luma)
@@ -32,7 +33,8 @@ pub record Looked (img : Image) (f : FrameSpec) (a b : Areas) (n k deep : ℕ) :
       CandidateList (maskPlane img f) (lumaPlane img) (img .w) (img .h) (patchAt (b .patches)) n (a .candidates) (a .«blob_index») (b .candidates) (b .«blob_index») k
   -- "the highest number of pixels waiting; free, but 0 without dark pixels and otherwise from 1 to the largest area"
   pub waited : Waited (b .patches) n deep
-  -- .. and "no answer depends on prior work-area contents": it is a function of the mask
+  -- "no answer depends on prior work-area contents": the patch records and that number are functions of the mask
+  pub patches-are : table (patchAt (b .patches)) n ≡ scanAll (maskPlane img f) (img .w) .blobs
   pub waited-is : deep ≡ mostWaiting (maskPlane img f) (img .w)
   -- "Free: .. the waiting list"; past its length it is unchanged
   pub waiting-long : length (b .waiting) ≡ length (a .waiting)

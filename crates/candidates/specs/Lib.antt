@@ -3,3 +3,4 @@ pub mod Ring
 pub mod Areas
 pub mod Doors
 pub mod Bounds
+pub mod Agreement

@@ -1,12 +1,12 @@
 // The functions behind `fiducial_candidates`, for the crates above.
 ghost use mathlib.Core.Path.{_≡_};
-ghost use mathlib.Core.Bool.{Bool·beq, cond};
+ghost use mathlib.Core.Bool.{false, Bool·beq, cond};
 ghost use mathlib.Core.List.{[], _∷_};
 ghost use Prim.Native.Nat.{_+_, _*_, _^_, _≤_, _<_, min};
 ghost use lib.Dec.{ltb};
 ghost use lib.ListN.{length};
 ghost use Rattle.candidates.specs.Ring.{tallied, arms, shareOf, ringScore, shaped, centre, sizeOf, ringOf, CandidateList, candidateAt, centerAt};
-ghost use Rattle.candidates.specs.Areas.{areas, smallest, shorter, testsBy};
+ghost use Rattle.candidates.specs.Areas.{areas, smallest, shorter, pictureTests};
 ghost use Rattle.candidates.specs.Doors.{Looked};
 ghost use Rattle.frame.specs.Image.{image};
 ghost use Rattle.frame.specs.Refusals.{lowestOf};
@@ -330,7 +330,7 @@ pub fn center_at(candidates: &[f64], i: usize) -> Point
     }
 }
 
-// ---- refusals 1, 2, 3, 5 and 6
+// ---- refusals 1 to 6
 
 // The smallest lengths of the work areas for a picture w by h.
 pub fn smallest(w: usize, h: usize) -> Lengths
@@ -365,9 +365,24 @@ pub fn shorter(l: Lengths, s: Lengths) -> bool
         | (l.blob_index < s.blob_index)
 }
 
-// The lowest number that applies, or 0.
-pub fn refused(capture: &[u8], w: usize, h: usize, frame: FrameSpec, lengths: Lengths) -> u32
-    ensures { λ r. ⌜ r ≡ lowestOf (testsBy (image w h (now (capture .entry))) frame lengths) ⌝ }
+// The same of a picture w by h, with the sides held to their limit: beyond it 2 goes before 3.
+pub fn areas_short(w: usize, h: usize, lengths: Lengths) -> bool
+    ensures { λ r. ⌜ (w ≤ 4096 → h ≤ 4096 → r ≡ shorter lengths (smallest w h)) ⌝ }
+{
+    shorter(lengths, smallest(min(w, 4096), min(h, 4096)))
+}
+
+// The lowest number that applies to a call on a picture, or 0: short says that a work area is too
+// short, wrong that the canonical image is of a wrong length (false where there is none).
+pub fn picture_refused(
+    capture: &[u8],
+    w: usize,
+    h: usize,
+    frame: FrameSpec,
+    short: bool,
+    wrong: bool,
+) -> u32
+    ensures { λ r. ⌜ r ≡ lowestOf (pictureTests (image w h (now (capture .entry))) frame short wrong) ⌝ }
 {
     if frame_outside(frame) {
         return 1;
@@ -375,8 +390,11 @@ pub fn refused(capture: &[u8], w: usize, h: usize, frame: FrameSpec, lengths: Le
     if capture_wrong(capture, w, h) {
         return 2;
     }
-    if shorter(lengths, smallest(w, h)) {
+    if short {
         return 3;
+    }
+    if wrong {
+        return 4;
     }
     if no_layout(frame) {
         return 5;
@@ -385,6 +403,14 @@ pub fn refused(capture: &[u8], w: usize, h: usize, frame: FrameSpec, lengths: Le
         return 6;
     }
     0
+}
+
+// .. to a look at the picture.
+pub fn refused(capture: &[u8], w: usize, h: usize, frame: FrameSpec, lengths: Lengths) -> u32
+    ensures { λ r. ⌜ r ≡ lowestOf (pictureTests (image w h (now (capture .entry))) frame
+        (shorter lengths (smallest w h)) false) ⌝ }
+{
+    picture_refused(capture, w, h, frame, areas_short(w, h, lengths), false)
 }
 
 // ---- the whole look

@@ -8,6 +8,7 @@ ghost use Rattle.frame.specs.Image.{image};
 ghost use Rattle.candidates.specs.Areas.{areas};
 ghost use Rattle.candidates.specs.Doors.{Listing};
 
+mod constants;
 pub mod internal;
 
 // Least share of the probes that must agree.

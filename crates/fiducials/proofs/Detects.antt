@@ -1,7 +1,7 @@
 -- A detection, from a look and the corners. Assumes nothing.
 use Prim.Native.Nat.{ℕ, zero, suc, _*_, _/_, _≤_, _<_}
 use mathlib.Core.Path.{_≡_, refl, sym, ap, subst, _∙_}
-use mathlib.Core.Bool.{Bool, true, false, not, cond}
+use mathlib.Core.Bool.{false, not}
 use mathlib.Core.Logic.{⊎-elim}
 use native.Mathlib.Nat.{le-antisymm}
 use native.Mathlib.Omega.{arith}
@@ -9,19 +9,17 @@ use lib.Dec.{T, T-not}
 use lib.ListN.{length, getD}
 use Rattle.base.proofs.Plane.{le-or-lt}
 use Rattle.frame.specs.Image.{Image}
-use Rattle.frame.specs.Refusals.{lowestOf, Lowest, verdictOf, frameOutside, captureWrong, captureSmall}
+use Rattle.frame.specs.Refusals.{lowestOf, Lowest, verdictOf}
 use Rattle.frame.specs.declared.FrameSpec.{FrameSpec}
 use Rattle.frame.specs.declared.Point.{Point}
 use Rattle.frame.proofs.Lowest.{none-tested}
 use Rattle.mask.specs.Mask.{maskPlane}
 use Rattle.blobs.specs.Patches.{patchAt}
-use Rattle.markers.specs.Layout.{noLayout}
-use Rattle.candidates.specs.Areas.{Areas, smallest, shorter, testsBy, lookTests, lengthsOf}
+use Rattle.candidates.specs.Areas.{Areas, areaShort, lookTests}
 use Rattle.candidates.specs.Bounds.{Ready}
 use Rattle.candidates.specs.Doors.{Looked}
 use Rattle.candidates.specs.Ring.{centerAt}
-use Rattle.candidates.specs.declared.Lengths.{Lengths}
-use Rattle.candidates.proofs.Looks.{tests-rising}
+use Rattle.candidates.proofs.Refusing.{rising, lowest-six}
 use Rattle.candidates.proofs.Room.{candidates-few}
 use Rattle.base.proofs.Table.{length-table}
 use Rattle.frame.specs.declared.Quad.{Quad}
@@ -142,19 +140,6 @@ module _ (img : Image) (f : FrameSpec) (a b : Areas) (n k deep : ℕ) (R : Ready
             (eq ∙ g .0, es ∙ g .1);
       }
 
--- the tests' numbers end at 6
-pub tests-six : (img : Image) (f : FrameSpec) (l : Lengths) → lowestOf (testsBy img f l) ≤ 6
-unfolding testsBy lowestOf
-tests-six img f l = go (frameOutside f) (captureWrong img) (shorter l (smallest (img .w) (img .h))) (noLayout f) (captureSmall img)
-  where
-    go : (p q r s t : Bool) → cond p 1 (cond q 2 (cond r 3 (cond s 5 (cond t 6 0)))) ≤ 6
-    go true q r s t = omega arith
-    go false true r s t = omega arith
-    go false false true s t = omega arith
-    go false false false true t = omega arith
-    go false false false false true = omega arith
-    go false false false false false = omega arith
-
 -- ---- the room that `corners` asks
 
 pub candidates-room : (img : Image) (f : FrameSpec) (a b : Areas) (n k deep : ℕ) → Ready img f a → Looked img f a b n k deep → (4 * k ≤ length (b .candidates)) × (k ≤ length (b .«blob_index»))
@@ -173,12 +158,12 @@ candidates-room img f a b n k deep R L =
 pub detection-refused : (img : Image) (f : FrameSpec) (a : Areas) (number : ℕ) (v : Verdict) (q : Quad) (s : Places)
     → number ≡ lowestOf (lookTests img f a) → (number ≡ 0 → ⊥) → v ≡ verdictOf number → q ≡ noQuad → s ≡ noPlaces → Detection img f a a v 0 0 0 s q
 detection-refused img f a number v q s e ne ev eq es =
-    let six : lowestOf (lookTests img f a) ≤ 6 = tests-six img f (lengthsOf a) in
+    let six : lowestOf (lookTests img f a) ≤ 6 = lowest-six img f (areaShort img a) false in
     let one : 1 ≤ lowestOf (lookTests img f a) = positive (lowestOf (lookTests img f a)) (λ z. ne (e ∙ z)) in
     record {
       number = number;
       given = ev;
-      refusal = subst (λ z. Lowest (Undetected img f (lookTests img f a)) z) (sym e) (tests-lowest img f (lookTests img f a) (tests-rising img f (lengthsOf a)) one six);
+      refusal = subst (λ z. Lowest (Undetected img f (lookTests img f a)) z) (sym e) (tests-lowest img f (lookTests img f a) (rising img f (areaShort img a) false) one six);
       untouched = λ x y. (refl, refl, refl, refl);
       refused = λ x. absurd (omega arith);
       accepted = λ x. absurd (ne x);
@@ -197,7 +182,7 @@ detection-found img f a b number v n k deep s q e D ev =
     record {
       number = number;
       given = ev;
-      refusal = D .lowest (lookTests img f a) (none-tested (lookTests img f a) (tests-rising img f (lengthsOf a)) e);
+      refusal = D .lowest (lookTests img f a) (none-tested (lookTests img f a) (rising img f (areaShort img a) false) e);
       untouched = λ x y. absurd (let z = D .from-seven x in omega arith);
       refused = λ x. D .looked;
       accepted = λ x. D .looked;

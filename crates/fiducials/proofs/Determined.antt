@@ -1,6 +1,7 @@
 -- A detection's answer is decided by the capture and the frame: "no answer depends on prior work-area contents". Assumes nothing.
 use Prim.Native.Nat.{ℕ, zero, suc, _≤_}
 use mathlib.Core.Path.{_≡_, refl, sym, ap, subst, _∙_}
+use mathlib.Core.Bool.{false}
 use mathlib.Core.Logic.{_⊎_, inl, inr, ⊎-elim}
 use mathlib.Core.List.{List}
 use native.Mathlib.Omega.{arith}
@@ -10,10 +11,10 @@ use Rattle.frame.specs.declared.FrameSpec.{FrameSpec}
 use Rattle.frame.specs.declared.Quad.{Quad}
 use Rattle.frame.specs.declared.Verdict.{Verdict}
 use Rattle.frame.proofs.Lowest.{Rising, above, lowest-unique}
-use Rattle.candidates.specs.Areas.{Areas, lookTests, lengthsOf}
+use Rattle.candidates.specs.Areas.{Areas, areaShort, lookTests}
 use Rattle.candidates.specs.Doors.{Looked}
 use Rattle.candidates.proofs.Determined as look
-use Rattle.candidates.proofs.Looks.{tests-rising}
+use Rattle.candidates.proofs.Refusing.{rising}
 use Rattle.fiducials.specs.Doors.{Undetected, Detection}
 use Rattle.fiducials.specs.Doors.Undetected.{tested, few, shared, crooked}
 use Rattle.fiducials.specs.declared.Places.{Places}
@@ -35,7 +36,7 @@ module _ (img : Image) (f : FrameSpec) (a b a′ b′ : Areas) (v v′ : Verdict
     (h : Detection img f a b v n k deep s q) (h′ : Detection img f a′ b′ v′ n′ k′ deep′ s′ q′) (e : lookTests img f a ≡ lookTests img f a′) where
   pub same-number : h .number ≡ h′ .number
   same-number =
-      lowest-unique (Undetected img f (lookTests img f a)) (undetected-positive img f (lookTests img f a) (tests-rising img f (lengthsOf a))) (h .number) (h′ .number)
+      lowest-unique (Undetected img f (lookTests img f a)) (undetected-positive img f (lookTests img f a) (rising img f (areaShort img a) false)) (h .number) (h′ .number)
       (h .refusal) (subst (λ t. Lowest (Undetected img f t) (h′ .number)) (sym e) (h′ .refusal))
 
   pub same-verdict : v ≡ v′

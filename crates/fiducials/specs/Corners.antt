@@ -52,8 +52,8 @@ pub record Passing (img : Image) (f : FrameSpec) (p : ℕ) (t : Blob) : Type 0 w
   pub is : PatchOf (maskPlane img f) (img .w) p t
   pub ring : T (passes (maskPlane img f) (lumaPlane img) (img .w) (img .h) t)
 
--- the patch named for a corner: it passes the ring rule, "no other passing patch lies further out toward that corner, and of equals the first in
--- raster order is named"; two are equals when neither lies further out
+-- the patch named for a corner: it passes the ring rule, and "No other passing patch lies further out toward that corner,
+-- and of equals the first in raster order is named". Two are equals when neither lies further out
 pub record Outermost (img : Image) (f : FrameSpec) (c : Corner) (p : ℕ) (t : Blob) : Type 0 where
   pub passing : Passing img f p t
   pub none-further : (q : ℕ) (u : Blob) → Passing img f q u → T (not (further c (centre u) (centre t)))

@@ -103,7 +103,7 @@ rowStep img f fit y s = turns (across f) (cellStep img f fit y) s
 unfoldable pub walked : Image → FrameSpec → GeometryFit → Walk
 walked img f fit = turns (down f) (rowStep img f fit) Going
 
--- "a score with its float, too few cells (under 16), or outside with a cell. Outside goes before too few."
+-- "The grade is a score with its float, too few cells (under 16), or outside with a cell"; "Outside goes before too few."
 abbrev pub gradeFrom : Walk → Grade → Grade
 gradeFrom (Ended cell) g = Outside cell
 gradeFrom Going g = g

@@ -1,2 +1,3 @@
--- Laws of the definitions.
+-- Laws and theorems of this crate.
 pub mod Picturing
+pub mod Determined

@@ -1,7 +1,6 @@
 -- From a detection and a search to what `fit_geometry` promises. Assumes nothing.
 use mathlib.Core.Path.{_≡_, refl, sym, ap, subst}
-use mathlib.Core.Bool.{Bool, true, false, not, cond, _||_}
-use mathlib.Core.Logic.{inl, inr}
+use mathlib.Core.Bool.{Bool, true, false, not, _||_}
 use mathlib.Core.List.{List, []}
 use Prim.Native.Nat.{ℕ, zero, suc, _≤_, _<_}
 use native.Mathlib.Omega.{arith}
@@ -11,16 +10,17 @@ use borrow.Author.Tests.{ltb-false}
 use lib.Ieee.{Float}
 use Rattle.base.proofs.Pick.{pick-yes, pick-no}
 use Rattle.frame.specs.Image.{Image}
-use Rattle.frame.specs.Refusals.{Lowest, Check, Tested, lowestOf, frameOutside, captureWrong, captureSmall}
+use Rattle.frame.specs.Refusals.{Lowest, Check, Tested, lowestOf, captureWrong}
 use Rattle.frame.specs.Refusals.Lowest.{accepted, refused}
+use Rattle.frame.proofs.Held.{capture-held}
 use Rattle.frame.proofs.Lowest.{Rising, lowest-of, none-tested}
+use Rattle.frame.proofs.Tests.{or-left, or-right}
 use Rattle.frame.specs.declared.FrameSpec.{FrameSpec}
 use Rattle.frame.specs.declared.Quad.{Quad}
-use Rattle.markers.specs.Layout.{noLayout}
-use Rattle.candidates.specs.Areas.{Areas, lengthsOf, shorter, smallest, testsBy}
+use Rattle.candidates.specs.Areas.{Areas, lengthsOf, shorter, smallest, areaShort}
 use Rattle.candidates.specs.Bounds.{Ready}
 use Rattle.candidates.specs.declared.Lengths.{Lengths}
-use Rattle.candidates.proofs.Looks.{ready}
+use Rattle.candidates.proofs.Refusing.{Clear, clear, rising, upto-six, ready-of}
 use Rattle.fiducials.specs.Answers.{noPlaces}
 use Rattle.fiducials.specs.Doors.{MarkedBy, Undetected, centresAt, Detecting}
 use Rattle.fiducials.specs.Doors.Undetected.{tested, few, shared, crooked}
@@ -31,7 +31,7 @@ use Rattle.search.specs.declared.Stage.{Stage}
 use Rattle.fit_geometry.specs.declared.Pictured.{Pictured}
 use Rattle.fit_geometry.specs.declared.PictureFit.{PictureFit}
 use Rattle.search.specs.Stages.{keeps, searched, lastCentre, BestTrial}
-use Rattle.fit_geometry.specs.Doors.{Unfitted, undetected, barren, testsFor, fitTests, unsearched, pictured, Picturing, answerOf, untested, Fitting}
+use Rattle.fit_geometry.specs.Doors.{Unfitted, undetected, barren, fitShort, fitTests, unsearched, pictured, Picturing, answerOf, untested, Fitting}
 use Rattle.search.proofs.Kept.{search-best, tried-78, search-barren, barren-search, some-grade}
 
 -- ---- the lowest number
@@ -177,41 +177,19 @@ pub searched-is : (img : Image) (f : FrameSpec) (a b : Areas) (means means′ : 
     → d .number ≡ 0 → t ≡ searched img f (d .quad) → MeansKept f means means′ → r ≡ pictured d t → Picturing img f a b means means′ r
 searched-is img f a b means means′ d t r h z e k p = subst (Picturing img f a b means means′) (sym p) (picturing-searched img f a b means d h means′ k z t e)
 
--- ---- the tests: those of a look at the picture, and the area of means
+-- ---- the tests
 
-pub rising : (img : Image) (f : FrameSpec) (l : Lengths) (m : ℕ) → Rising 0 (testsFor img f l m)
-unfolding testsFor
-rising img f l m = (omega arith, (omega arith, (omega arith, (omega arith, (omega arith, tt)))))
+-- 3, as the code finds it where 2 does not apply
+pub short-is : (img : Image) (f : FrameSpec) (l : Lengths) (m : ℕ) {areas means : Bool} → captureWrong img ≡ false
+    → (img .w ≤ 4096 → img .h ≤ 4096 → areas ≡ shorter l (smallest (img .w) (img .h))) → means ≡ ltb m (sampledCells f) → (areas || means) ≡ fitShort img f l m
+short-is img f l m d x y = let h = capture-held img d in let z = x (h .w-most) (h .h-most) in λ i. z i || y i
 
-module _ (a b c d e m : Bool) where
-  abbrev look-number : ℕ
-  look-number = cond a 1 (cond b 2 (cond c 3 (cond d 5 (cond e 6 0))))
-
-  abbrev fit-number : ℕ
-  fit-number = cond a 1 (cond b 2 (cond (c || m) 3 (cond d 5 (cond e 6 0))))
-
-number-none : (a b c d e m : Bool) → fit-number a b c d e m ≡ 0 → (look-number a b c d e m ≡ 0) × (m ≡ false)
-number-none true b c d e m h = absurd (omega arith)
-number-none false true c d e m h = absurd (omega arith)
-number-none false false true d e m h = absurd (omega arith)
-number-none false false false d e true h = absurd (omega arith)
-number-none false false false d e false h = (h, refl)
-
-module _ (img : Image) (f : FrameSpec) (l : Lengths) (m : ℕ) where
-  pub tests-none : lowestOf (testsFor img f l m) ≡ 0 → (lowestOf (testsBy img f l) ≡ 0) × (ltb m (sampledCells f) ≡ false)
-  unfolding testsBy testsFor lowestOf
-  tests-none e =
-      number-none (frameOutside f) (captureWrong img) (shorter l (smallest (img .w) (img .h))) (noLayout f) (captureSmall img) (ltb m (sampledCells f)) e
-
--- no test has a number above 6
-pub upto-six : (img : Image) (f : FrameSpec) (l : Lengths) (m n : ℕ) → Tested n (testsFor img f l m) → n ≤ 6
-unfolding testsFor
-upto-six img f l m n (inl t) = omega (arith, t .0)
-upto-six img f l m n (inr (inl t)) = omega (arith, t .0)
-upto-six img f l m n (inr (inr (inl t))) = omega (arith, t .0)
-upto-six img f l m n (inr (inr (inr (inl t)))) = omega (arith, t .0)
-upto-six img f l m n (inr (inr (inr (inr (inl t))))) = omega (arith, t .0)
-upto-six img f l m n (inr (inr (inr (inr (inr t))))) = absurd t
+-- what a fit asks, where none of the tests of a call that is handed what it takes holds
+pub fit-room : (img : Image) (f : FrameSpec) (a : Areas) (means : List Float) (wrong : Bool) → Clear img f (fitShort img f (lengthsOf a) (length means)) wrong
+    → Ready img f a × (sampledCells f ≤ length means)
+fit-room img f a means wrong c =
+    let few = ltb (length means) (sampledCells f) in
+    (ready-of img f a c (or-left (areaShort img a) few (c .long)), ltb-false _ _ (or-right (areaShort img a) few (c .long)))
 
 -- a test that holds goes before 7 to 10
 module _ (img : Image) (f : FrameSpec) (tests : List Check) (up : Rising 0 tests) (most : (j : ℕ) → Tested j tests → j ≤ 6) where
@@ -232,10 +210,13 @@ module _ (img : Image) (f : FrameSpec) (tests : List Check) (up : Rising 0 tests
 -- ---- `fit_geometry`
 
 module _ (img : Image) (f : FrameSpec) (a : Areas) (means : List Float) where
+  abbrev short : Bool
+  short = fitShort img f (lengthsOf a) (length means)
+
   pub fitting-refused : (n : ℕ) → n ≡ lowestOf (fitTests img f a means) → 1 ≤ n → Fitting img f a a means means (answerOf (untested n))
   unfolding answerOf untested
   fitting-refused n e h =
-      let r = tests-lowest img f (fitTests img f a means) (rising img f (lengthsOf a) (length means)) (upto-six img f (lengthsOf a) (length means)) n e h in
+      let r = tests-lowest img f (fitTests img f a means) (rising img f short false) (upto-six img f short false) n e h in
       let s : n ≤ 6 = r .1 in
       record {
         number = n;
@@ -260,7 +241,7 @@ module _ (img : Image) (f : FrameSpec) (a : Areas) (means : List Float) where
       record {
         number = p .number;
         given = refl;
-        refusal = h .lowest (fitTests img f a means) (none-tested (fitTests img f a means) (rising img f (lengthsOf a) (length means)) e);
+        refusal = h .lowest (fitTests img f a means) (none-tested (fitTests img f a means) (rising img f short false) e);
         untouched = λ x y. absurd (let z : 7 ≤ p .number = h .from-seven x in omega arith);
         refused = λ x. h .looked;
         accepted = λ x. h .looked;
@@ -275,9 +256,7 @@ module _ (img : Image) (f : FrameSpec) (a : Areas) (means : List Float) where
       }
 
   pub fit-ready : lowestOf (fitTests img f a means) ≡ 0 → Ready img f a × (sampledCells f ≤ length means)
-  fit-ready e =
-      let t = tests-none img f (lengthsOf a) (length means) e in
-      (ready img f a (t .0), ltb-false (length means) (sampledCells f) (t .1))
+  fit-ready e = fit-room img f a means false (clear img f short false e)
 
   pub fit-refused : (n : ℕ) (r : PictureFit) → n ≡ lowestOf (fitTests img f a means) → (n ≡ 0 → ⊥) → r ≡ answerOf (untested n) → Fitting img f a a means means r
   fit-refused zero r e h p = absurd (h refl)

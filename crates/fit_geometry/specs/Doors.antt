@@ -1,15 +1,14 @@
 -- What `fit_geometry` does; refusal 10. Assumes nothing.
 use Prim.Native.Nat.{ℕ, _≤_}
 use mathlib.Core.Path.{_≡_}
-use mathlib.Core.Bool.{cond, _||_}
-use mathlib.Core.List.{List, [], _∷_}
+use mathlib.Core.Bool.{Bool, false, cond, _||_}
+use mathlib.Core.List.{List}
 use lib.Dec.{ltb}
 use lib.ListN.{length}
 use lib.Ieee.{Float}
 use Rattle.frame.specs.Image.{Image}
-use Rattle.frame.specs.Refusals.{verdictOf, Lowest, Check, check, Tested, frameOutside, captureWrong, captureSmall}
-use Rattle.markers.specs.Layout.{noLayout}
-use Rattle.candidates.specs.Areas.{Areas, lengthsOf, shorter, smallest}
+use Rattle.frame.specs.Refusals.{verdictOf, Lowest, Check, Tested}
+use Rattle.candidates.specs.Areas.{Areas, lengthsOf, shorter, smallest, pictureTests}
 use Rattle.candidates.specs.Doors.{Looked}
 use Rattle.candidates.specs.declared.Lengths.{Lengths}
 use Rattle.fiducials.specs.Answers.{noPlaces}
@@ -29,18 +28,12 @@ pub data Unfitted (img : Image) (f : FrameSpec) (tests : List Check) (n : ℕ) :
   -- "10: no homography; in `fit_geometry` and its callers, a stage in which no trial has one"
   barren : n ≡ 10 → (q : Quad) → MarkedBy img f q → BarrenStage img f q → Unfitted img f tests n
 
--- "each call makes the checks that concern what it is handed"; the areas by their lengths
-unfoldable pub testsFor : Image → FrameSpec → Lengths → ℕ → List Check
-testsFor img f l means =
-    check 1 (frameOutside f)
-    ∷ check 2 (captureWrong img)
-    ∷ check 3 (shorter l (smallest (img .w) (img .h)) || ltb means (sampledCells f))
-    ∷ check 5 (noLayout f)
-    ∷ check 6 (captureSmall img)
-    ∷ []
+-- "3: a work area too short", "cell means one for each sampled cell" among them; the areas by their lengths
+abbrev pub fitShort : Image → FrameSpec → Lengths → ℕ → Bool
+fitShort img f l means = shorter l (smallest (img .w) (img .h)) || ltb means (sampledCells f)
 
 abbrev pub fitTests : Image → FrameSpec → Areas → List Float → List Check
-fitTests img f a means = testsFor img f (lengthsOf a) (length means)
+fitTests img f a means = pictureTests img f (fitShort img f (lengthsOf a) (length means)) false
 
 -- ---- past the tests
 
@@ -99,10 +92,11 @@ untested n = record { number = n; stage = begun 0 0; places = noPlaces; patches 
 abbrev pub stageOf : PictureFit → Stage
 stageOf r = record { kept = r .kept; fit = r .fit; tried = r .tried; homographies = r .homographies }
 
-pub record Fitting (img : Image) (f : FrameSpec) (a b : Areas) (means means′ : List Float) (r : PictureFit) : Type 0 where
+-- a call that makes these tests first
+pub record FittingAfter (img : Image) (f : FrameSpec) (tests : List Check) (a b : Areas) (means means′ : List Float) (r : PictureFit) : Type 0 where
   pub number : ℕ
   pub given : r .verdict ≡ verdictOf number
-  pub refusal : Lowest (Unfitted img f (fitTests img f a means)) number
+  pub refusal : Lowest (Unfitted img f tests) number
   -- "1 to 6 touch no memory"
   pub untouched : 1 ≤ number → number ≤ 6 → (b ≡ a) × (means′ ≡ means) × (r .patches ≡ 0) × (r .candidates ≡ 0) × (r .waiting ≡ 0)
   -- from 7 on, and accepted: planes, marks and records
@@ -112,7 +106,8 @@ pub record Fitting (img : Image) (f : FrameSpec) (a b : Areas) (means means′ :
   pub corners : (e : number ≡ 0) → Cornered img f (b .patches) (accepted e .firsts) (r .patches) (r .places)
   -- the kept trial with its grade and fit, and "trials tried .. and how many had a homography"
   pub found : number ≡ 0 → stageOf r ≡ searched img f (centresAt (b .patches) (r .places))
-  -- "a trial of the last stage; no other of that stage scores more, no earlier one as much"
+  -- "The reported fit is a trial of the last lens stage over those four patches' centres. No other trial of that stage
+  -- scores more, and no earlier one as much."
   pub best : number ≡ 0 → BestTrial img f (centresAt (b .patches) (r .places)) 2 (lastCentre img f (centresAt (b .patches) (r .places))) (r .fit)
   pub tried-all : number ≡ 0 → r .tried ≡ 78
   -- 10: the counts up to and with the stage that has no trial with a homography
@@ -120,3 +115,6 @@ pub record Fitting (img : Image) (f : FrameSpec) (a b : Areas) (means means′ :
   -- 1 to 9: nothing was tried
   pub untried : 1 ≤ number → number ≤ 9 → stageOf r ≡ begun 0 0
   pub nowhere : 1 ≤ number → r .places ≡ noPlaces
+
+abbrev pub Fitting : Image → FrameSpec → Areas → Areas → List Float → List Float → PictureFit → Type 0
+Fitting img f a b means means′ r = FittingAfter img f (fitTests img f a means) a b means means′ r

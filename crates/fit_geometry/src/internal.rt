@@ -2,8 +2,8 @@
 use super::PictureFit;
 use super::Pictured;
 use candidates::Lengths;
-use candidates::internal::shorter;
-use candidates::internal::smallest;
+use candidates::internal::areas_short;
+use candidates::internal::picture_refused;
 use fiducials::Found;
 use fiducials::internal::detect;
 use fiducials::internal::no_places;
@@ -11,26 +11,35 @@ use fiducials::internal::verdict_of;
 use fit::internal::sampled_cells;
 use frame::FrameSpec;
 use frame::Quad;
-use frame::internal::capture_small;
-use frame::internal::capture_wrong;
 use frame::internal::frame_outside;
-use markers::internal::no_layout;
 use search::Outcome;
 use search::Stage;
 use search::internal::begin;
 use search::internal::result;
 use search::internal::search;
 ghost use mathlib.Core.Path.{_≡_};
+ghost use mathlib.Core.Bool.{false};
 ghost use Prim.Native.Nat.{_≤_};
+ghost use lib.Dec.{ltb};
 ghost use lib.ListN.{length};
 ghost use Rattle.frame.specs.Image.{image};
 ghost use Rattle.frame.specs.Limits.{FrameHeld, CaptureHeld};
-ghost use Rattle.frame.specs.Refusals.{lowestOf};
-ghost use Rattle.candidates.specs.Areas.{areas};
+ghost use Rattle.frame.specs.Refusals.{lowestOf, frameOutside};
+ghost use Rattle.candidates.specs.Areas.{areas, pictureTests};
 ghost use Rattle.candidates.specs.Bounds.{Ready};
 ghost use Rattle.fit.specs.Doors.{sampledCells, MeansKept};
 ghost use Rattle.search.specs.Stages.{searched};
 ghost use Rattle.fit_geometry.specs.Doors as doors;
+
+// Refusal 3 by the cell means; false where the frame is outside its limits: 1 goes before 3.
+pub fn means_short(frame: FrameSpec, means: usize) -> bool
+    ensures { λ r. ⌜ (frameOutside frame ≡ false → r ≡ ltb means (sampledCells frame)) ⌝ }
+{
+    if frame_outside(frame) {
+        return false;
+    }
+    means < sampled_cells(frame)
+}
 
 // The lowest number of the tests of `fit_geometry` that applies, or 0.
 pub fn refused(
@@ -41,24 +50,11 @@ pub fn refused(
     lengths: Lengths,
     means: usize,
 ) -> u32
-    ensures { λ r. ⌜ r ≡ lowestOf (doors.testsFor (image w h (now (capture .entry))) frame lengths means) ⌝ }
+    ensures { λ r. ⌜ r ≡ lowestOf (pictureTests (image w h (now (capture .entry))) frame
+        (doors.fitShort (image w h (now (capture .entry))) frame lengths means) false) ⌝ }
 {
-    if frame_outside(frame) {
-        return 1;
-    }
-    if capture_wrong(capture, w, h) {
-        return 2;
-    }
-    if shorter(lengths, smallest(w, h)) | (means < sampled_cells(frame)) {
-        return 3;
-    }
-    if no_layout(frame) {
-        return 5;
-    }
-    if capture_small(w, h) {
-        return 6;
-    }
-    0
+    let short = areas_short(w, h, lengths) | means_short(frame, means);
+    picture_refused(capture, w, h, frame, short, false)
 }
 
 // No corners, and so no search.

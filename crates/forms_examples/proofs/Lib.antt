@@ -1,3 +1,2 @@
 -- Laws that this crate's proofs share.
 mod Arrays
-mod Keeping

@@ -1,24 +1,34 @@
-// Labels a mask of 3 by 3, keeps the records in a slice of records and prints those fetched from it,
-// then reads a picture of 3 by 3 through the view. stdin: the mask's nine bytes and the picture's
-// 27. The expected output is the original's (host/vectors, forms).
+// The two forms proved by hand. Labels a mask of 3 by 3, keeps the patches in a slice of records
+// and prints those fetched from it; reads a picture of 3 by 3 through the view; and does with the
+// candidates of a capture of 64 by 64 as with the patches. stdin: the mask's nine bytes, the
+// picture's 27 and the capture's 12,288. The expected output is the original's (host/vectors,
+// forms).
 use blobs::Blob;
+use candidates::Candidate;
+use frame::FrameSpec;
+use frame::Point;
 use frame::Rgb;
 use frame::Verdict;
 use view::Pixel;
+use view::internal::pixel_at;
 ghost use mathlib.Core.Path.{_≡_};
 ghost use Prim.Native.Nat.{_+_, _*_, _≤_, _<_, min};
 ghost use lib.ListN.{length, replicate, set};
 ghost use Rattle.base.specs.Loops.{filled};
 ghost use Rattle.blobs.specs.Patches.{recordLength, patchAt};
-ghost use Rattle.records.specs.Records.{none, blobAt};
+ghost use Rattle.candidates.specs.Ring.{candidateAt};
+ghost use Rattle.records.specs.Records.{noPatch, noCandidate, patchIn, candidateIn};
 
 fn main() {
     let mut mask = [0u8; 9];
     io::read_full(0, &mut mask);
     label(&mask);
-    let mut capture = [0u8; 27];
+    let mut picture = [0u8; 27];
+    io::read_full(0, &mut picture);
+    look(&picture);
+    let mut capture = [0u8; 12288];
     io::read_full(0, &mut capture);
-    look(&capture);
+    find(&capture);
 }
 
 fn label(mask: &[u8]) {
@@ -28,61 +38,103 @@ fn label(mask: &[u8]) {
     let l = blobs::label_blobs(mask, 3, 3, &mut seen, &mut waiting, &mut patches);
     let verdict = l.verdict;
     match verdict {
-        Verdict::Accepted => print_labels(&patches, l.patches),
+        Verdict::Accepted => print_patches(&patches, l.patches),
         Verdict::Refused(n) => print_refusal(n),
     }
 }
 
-fn print_labels(patches: &[u64], n: usize)
-    requires { ⌜ 35 ≤ length (now patches) ⌝ }
-{
-    text(b"3 3 ");
-    number(n as u64);
-    text(b"\n");
-    print_list(patches, five_at_most(n));
-}
-
-fn five_at_most(n: usize) -> usize
-    ensures { λ r. ⌜ r ≡ min n 5 ⌝ }
-{
-    if n < 5 { n } else { 5 }
-}
-
-fn look(capture: &[u8]) {
+fn look(picture: &[u8]) {
     for p in 0..9 {
-        print_pixel(view::pixel_at(capture, 3, 3, p % 3, p / 3));
+        print_pixel(pixel_at(picture, 3, 3, p % 3, p / 3));
     }
-    print_pixel(view::pixel_at(capture, 3, 3, 3, 0));
-    print_pixel(view::pixel_at(capture, 3, 3, 0, 3));
-    print_pixel(view::pixel_at(capture, 3, 2, 0, 0));
-    print_pixel(view::pixel_at(capture, 0, 3, 0, 0));
+    print_pixel(pixel_at(picture, 3, 3, 3, 0));
+    print_pixel(pixel_at(picture, 3, 3, 0, 3));
+    print_pixel(pixel_at(picture, 3, 2, 0, 0));
+    print_pixel(pixel_at(picture, 0, 3, 0, 0));
 }
 
-// ---- the slice of records: an array by value, lent to `store` and `fetch`. Only these two functions
-// lend it, so only they are proved by a walk.
+fn find(capture: &[u8]) {
+    let frame = FrameSpec {
+        width: 192,
+        height: 192,
+        cell: 1,
+        margin: 48,
+    };
+    let mut luma = [0.0f32; 4096];
+    let mut integral = [0.0; 4225];
+    let mut mask = [0u8; 4096];
+    let mut seen = [0u8; 4096];
+    let mut waiting = [0u32; 4096];
+    let mut patches = [0u64; 14336];
+    let mut candidates = [0.0; 512];
+    let mut blob_index = [0u32; 128];
+    let l = candidates::fiducial_candidates(
+        capture,
+        64,
+        64,
+        frame,
+        &mut luma,
+        &mut integral,
+        &mut mask,
+        &mut seen,
+        &mut waiting,
+        &mut patches,
+        &mut candidates,
+        &mut blob_index,
+    );
+    let verdict = l.verdict;
+    match verdict {
+        Verdict::Accepted => print_candidates(&candidates, &blob_index, l.candidates),
+        Verdict::Refused(n) => print_refusal(n),
+    }
+}
 
-fn stored(list: [Blob; 5], patches: &[u64], j: usize) -> [Blob; 5]
+// ---- the slices of records: arrays by value, lent to the crate's store and fetch. Only these four
+// functions lend them, so only they are proved by a walk.
+
+fn stored_patch(list: [Blob; 5], patches: &[u64], j: usize) -> [Blob; 5]
     requires { ⌜ (j < 5) × (recordLength * j + 6 < length (now patches)) ⌝ }
     ensures { λ r. ⌜ r ≡ set list j (patchAt (now (patches .entry)) j) ⌝ }
 {
     let mut r = list;
-    records::internal::store(&mut r, patches, j);
+    records::internal::store_patch(&mut r, patches, j);
     r
 }
 
-fn fetched(list: [Blob; 5], j: usize) -> Blob
+fn fetched_patch(list: [Blob; 5], j: usize) -> Blob
     requires { ⌜ j < 5 ⌝ }
-    ensures { λ r. ⌜ r ≡ blobAt list j ⌝ }
+    ensures { λ r. ⌜ r ≡ patchIn list j ⌝ }
 {
-    records::internal::fetch(&list, j)
+    records::internal::fetch_patch(&list, j)
+}
+
+fn stored_candidate(
+    list: [Candidate; 5],
+    candidates: &[f64],
+    blob_index: &[u32],
+    i: usize,
+) -> [Candidate; 5]
+    requires { ⌜ (i < 5) × (4 * i + 3 < length (now candidates)) × (i < length (now «blob_index»)) ⌝ }
+    ensures { λ r. ⌜ r ≡ set list i (candidateAt (now (candidates .entry)) (now («blob_index» .entry)) i) ⌝ }
+{
+    let mut r = list;
+    records::internal::store_candidate(&mut r, candidates, blob_index, i);
+    r
+}
+
+fn fetched_candidate(list: [Candidate; 5], i: usize) -> Candidate
+    requires { ⌜ i < 5 ⌝ }
+    ensures { λ r. ⌜ r ≡ candidateIn list i ⌝ }
+{
+    records::internal::fetch_candidate(&list, i)
 }
 
 // The first n records of the flat list, each in its place.
-fn keep(patches: &[u64], n: usize) -> [Blob; 5]
+fn keep_patches(patches: &[u64], n: usize) -> [Blob; 5]
     requires { ⌜ (n ≤ 5) × (35 ≤ length (now patches)) ⌝ }
-    ensures { λ r. ⌜ r ≡ filled (patchAt (now (patches .entry))) n (replicate 5 none) ⌝ }
+    ensures { λ r. ⌜ r ≡ filled (patchAt (now (patches .entry))) n (replicate 5 noPatch) ⌝ }
 {
-    let b = Blob {
+    let none = Blob {
         area: 0,
         sx: 0,
         sy: 0,
@@ -91,12 +143,37 @@ fn keep(patches: &[u64], n: usize) -> [Blob; 5]
         x1: 0,
         y1: 0,
     };
-    let mut list = [b; 5];
+    let mut list = [none; 5];
     for j in 0..n {
-        let next = stored(list, patches, j);
+        let next = stored_patch(list, patches, j);
         list = next;
     }
     list
+}
+
+// .. and of the flat candidate lists.
+fn keep_candidates(candidates: &[f64], blob_index: &[u32], n: usize) -> [Candidate; 5]
+    requires { ⌜ (n ≤ 5) × (20 ≤ length (now candidates)) × (5 ≤ length (now «blob_index»)) ⌝ }
+    ensures { λ r. ⌜ r ≡ filled (candidateAt (now (candidates .entry)) (now («blob_index» .entry))) n (replicate 5 noCandidate) ⌝ }
+{
+    let none = Candidate {
+        center: Point { x: 0.0, y: 0.0 },
+        score: 0.0,
+        size: 0.0,
+        blob_index: 0,
+    };
+    let mut list = [none; 5];
+    for i in 0..n {
+        let next = stored_candidate(list, candidates, blob_index, i);
+        list = next;
+    }
+    list
+}
+
+fn five_at_most(n: usize) -> usize
+    ensures { λ r. ⌜ r ≡ min n 5 ⌝ }
+{
+    if n < 5 { n } else { 5 }
 }
 
 // ---- printing
@@ -114,7 +191,30 @@ fn spaced(n: u64) {
     number(n);
 }
 
-fn print_blob(b: Blob) {
+fn float(x: f64) {
+    io::print_hex(1, vectors::bits(x), 16);
+    text(b" ");
+}
+
+fn print_patches(patches: &[u64], n: usize)
+    requires { ⌜ 35 ≤ length (now patches) ⌝ }
+{
+    text(b"3 3 ");
+    number(n as u64);
+    text(b"\n");
+    fetch_patches(patches, five_at_most(n));
+}
+
+fn fetch_patches(patches: &[u64], n: usize)
+    requires { ⌜ (n ≤ 5) × (35 ≤ length (now patches)) ⌝ }
+{
+    let list = keep_patches(patches, n);
+    for j in 0..n {
+        print_patch(fetched_patch(list, j));
+    }
+}
+
+fn print_patch(b: Blob) {
     number(b.area);
     spaced(b.sx);
     spaced(b.sy);
@@ -125,13 +225,32 @@ fn print_blob(b: Blob) {
     text(b"\n");
 }
 
-fn print_list(patches: &[u64], n: usize)
-    requires { ⌜ (n ≤ 5) × (35 ≤ length (now patches)) ⌝ }
+fn print_candidates(candidates: &[f64], blob_index: &[u32], n: usize)
+    requires { ⌜ (20 ≤ length (now candidates)) × (5 ≤ length (now «blob_index»)) ⌝ }
 {
-    let list = keep(patches, n);
-    for j in 0..n {
-        print_blob(fetched(list, j));
+    text(b"64 64 ");
+    number(n as u64);
+    text(b"\n");
+    fetch_candidates(candidates, blob_index, five_at_most(n));
+}
+
+fn fetch_candidates(candidates: &[f64], blob_index: &[u32], n: usize)
+    requires { ⌜ (n ≤ 5) × (20 ≤ length (now candidates)) × (5 ≤ length (now «blob_index»)) ⌝ }
+{
+    let list = keep_candidates(candidates, blob_index, n);
+    for i in 0..n {
+        print_candidate(fetched_candidate(list, i));
     }
+}
+
+fn print_candidate(c: Candidate) {
+    let center = c.center;
+    float(center.x);
+    float(center.y);
+    float(c.score);
+    float(c.size);
+    number(c.blob_index as u64);
+    text(b"\n");
 }
 
 fn print_colour(c: Rgb) {

@@ -51,11 +51,11 @@ lowestOf (c ∷ l) = cond (c .holds) (c .number) (lowestOf l)
 unfoldable pub side : ℕ → Bool
 side n = leb 1 n && leb n 4096
 
--- "cell 1 to 512", "margin 0 to 4,096"
+-- "cell 1 to 512"
 unfoldable pub cellHeld : ℕ → Bool
 cellHeld n = leb 1 n && leb n 512
 
--- "1: a frame number outside its limit"
+-- "1: a frame number outside its limit"; "frame sides 1 to 4,096, cell 1 to 512, margin 0 to 4,096"
 unfoldable pub frameOutside : FrameSpec → Bool
 frameOutside f = not (side (f .width) && side (f .height) && cellHeld (f .cell) && leb (f .margin) 4096)
 

@@ -1,4 +1,5 @@
 // The frame description, pictures, and what every layer shares of refusals and answers.
+mod constants;
 pub mod internal;
 
 ghost use mathlib.Core.Path.{_≡_};

@@ -5,7 +5,7 @@ use Prim.Native.Nat.{ℕ}
 use lib.Ieee.{Float}
 use Rattle.base.specs.Loops.{table}
 use Rattle.float.specs.Floats.{f64}
-use Rattle.float.proofs.Examples.{m12}
+use Rattle.float.proofs.Marked.{m12}
 use Rattle.frame.specs.Answers.{numberFor, numberAs}
 use Rattle.frame.specs.Refusals.{lowestOf, cellHeld, sideTests, sidesWrong, side}
 use Rattle.frame.specs.declared.Number.the-variants.{Is}
@@ -18,8 +18,9 @@ use Rattle.markers.proofs.Marked as markers
 use Rattle.blobs.specs.Patches.{patchAt, PatchList}
 use Rattle.blobs.proofs.Masks as masks
 use Rattle.blobs.proofs.Unique.{lists-equal}
-use Rattle.candidates.proofs.Examples as probes
-use Rattle.radial.specs.Lens.{radial, newLens, lensAs, lensRefusal, lensValue, m11}
+use Rattle.candidates.proofs.Marked as probes
+use Rattle.radial.specs.Lens.{radial, newLens, lensAs, lensRefusal, lensValue}
+use Rattle.radial.proofs.Marked.{m11}
 use Rattle.geometry.specs.Marked.{Marked, Labelled, centers, mask7, mask8, list7, list8, blob}
 
 -- a cell within its limit has its number

@@ -16,12 +16,12 @@ use Rattle.fit.specs.declared.GeometryFit.{GeometryFit}
 abbrev pub canonicalLength : FrameSpec → ℕ
 canonicalLength f = 3 * f .width * f .height
 
-unfoldable pub canonicalWrong : FrameSpec → List ℕ → Bool
-canonicalWrong f canonical = not (eqb (length canonical) (canonicalLength f))
+unfoldable pub canonicalWrong : FrameSpec → ℕ → Bool
+canonicalWrong f n = not (eqb n (canonicalLength f))
 
 -- `warp_with`: "neither" 5 nor 6
 unfoldable pub warpTests : Image → FrameSpec → List ℕ → List Check
-warpTests img f canonical = check 1 (frameOutside f) ∷ check 2 (captureWrong img) ∷ check 4 (canonicalWrong f canonical) ∷ []
+warpTests img f canonical = check 1 (frameOutside f) ∷ check 2 (captureWrong img) ∷ check 4 (canonicalWrong f (length canonical)) ∷ []
 
 -- ---- `warp_with`
 pub record Warping (img : Image) (f : FrameSpec) (fit : GeometryFit) (canonical canonical′ : List ℕ) (v : Verdict) : Type 0 where

@@ -1,28 +1,24 @@
 -- What `rectify` does: demand 3 (document 00), its sentences above the fields that state them. Assumes nothing.
 use Prim.Native.Nat.{ℕ, zero, suc, _≤_}
 use mathlib.Core.Path.{_≡_}
-use mathlib.Core.Bool.{not, _||_}
-use mathlib.Core.List.{List, [], _∷_}
-use lib.Dec.{ltb, eqb}
+use mathlib.Core.List.{List}
 use lib.ListN.{length}
 use lib.Ieee.{Float}
 use Rattle.frame.specs.Image.{Image}
-use Rattle.frame.specs.Refusals.{verdictOf, Lowest, Check, check, frameOutside, captureWrong, captureSmall}
+use Rattle.frame.specs.Refusals.{verdictOf, Lowest, Check}
 use Rattle.frame.specs.declared.FrameSpec.{FrameSpec}
 use Rattle.frame.specs.declared.Quad.{Quad}
-use Rattle.markers.specs.Layout.{noLayout}
-use Rattle.candidates.specs.Areas.{Areas, lengthsOf, shorter, smallest}
+use Rattle.candidates.specs.Areas.{Areas, lengthsOf, pictureTests}
 use Rattle.candidates.specs.Doors.{Looked}
-use Rattle.candidates.specs.declared.Lengths.{Lengths}
 use Rattle.fiducials.specs.Answers.{noPlaces}
 use Rattle.fiducials.specs.Doors.{MarkedBy, centresAt, Cornered}
 use Rattle.fit.specs.declared.GeometryFit.{GeometryFit}
-use Rattle.fit.specs.Doors.{sampledCells, MeansKept}
+use Rattle.fit.specs.Doors.{MeansKept}
 use Rattle.search.specs.Stages.{begun, searched, lastCentre, BestTrial}
-use Rattle.fit_geometry.specs.Doors.{Unfitted, stageOf}
+use Rattle.fit_geometry.specs.Doors.{Unfitted, fitShort, stageOf}
 use Rattle.fit_geometry.specs.declared.PictureFit.{PictureFit}
 use Rattle.geometry.specs.Warp.{warped}
-use Rattle.geometry.specs.Doors.{canonicalLength}
+use Rattle.geometry.specs.Doors.{canonicalWrong}
 
 -- ---- what is lent: the areas of a look at the picture, the cell means, the canonical image
 pub record Lent : Type 0 where
@@ -33,19 +29,8 @@ pub record Lent : Type 0 where
 abbrev pub lent : Areas → List Float → List ℕ → Lent
 lent areas means canonical = record { areas = areas; means = means; canonical = canonical }
 
--- the tests of `rectify`, the areas by their lengths
-unfoldable pub testsWith : Image → FrameSpec → Lengths → ℕ → ℕ → List Check
-testsWith img f l means canonical =
-    check 1 (frameOutside f)
-    ∷ check 2 (captureWrong img)
-    ∷ check 3 (shorter l (smallest (img .w) (img .h)) || ltb means (sampledCells f))
-    ∷ check 4 (not (eqb canonical (canonicalLength f)))
-    ∷ check 5 (noLayout f)
-    ∷ check 6 (captureSmall img)
-    ∷ []
-
 abbrev pub rectifyTests : Image → FrameSpec → Lent → List Check
-rectifyTests img f a = testsWith img f (lengthsOf (a .areas)) (length (a .means)) (length (a .canonical))
+rectifyTests img f a = pictureTests img f (fitShort img f (lengthsOf (a .areas)) (length (a .means))) (canonicalWrong f (length (a .canonical)))
 
 -- the canonical image under a fit that was found, with the number 0; else as it was
 unfoldable pub laidWhere : ℕ → Image → FrameSpec → GeometryFit → List ℕ → List ℕ

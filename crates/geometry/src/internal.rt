@@ -1,30 +1,29 @@
 // The warp and the tests of `rectify`, for callers that have made theirs.
 use candidates::Lengths;
-use candidates::internal::shorter;
-use candidates::internal::smallest;
+use candidates::internal::areas_short;
+use candidates::internal::picture_refused;
 use fit::GeometryFit;
-use fit::internal::sampled_cells;
 use fit_geometry::Pictured;
+use fit_geometry::internal::means_short;
 use frame::FrameSpec;
 use frame::Point;
 use frame::Rgb;
-use frame::internal::capture_small;
-use frame::internal::capture_wrong;
 use frame::internal::frame_outside;
-use markers::internal::no_layout;
 ghost use mathlib.Core.Path.{_≡_};
-ghost use mathlib.Core.Bool.{not};
-ghost use Prim.Native.Nat.{_+_, _*_, _<_, _≤_};
+ghost use mathlib.Core.Bool.{false, not};
+ghost use Prim.Native.Nat.{_+_, _*_, _<_};
 ghost use lib.Dec.{eqb};
 ghost use lib.ListN.{length};
 ghost use Rattle.base.specs.Loops.{filled};
 ghost use Rattle.float.specs.Floats.{_⊕_, f64, d64};
 ghost use Rattle.frame.specs.Image.{image};
 ghost use Rattle.frame.specs.Limits.{FrameHeld, CaptureHeld};
-ghost use Rattle.frame.specs.Refusals.{lowestOf};
+ghost use Rattle.frame.specs.Refusals.{lowestOf, frameOutside};
+ghost use Rattle.candidates.specs.Areas.{pictureTests};
+ghost use Rattle.fit_geometry.specs.Doors.{fitShort};
 ghost use Rattle.geometry.specs.Warp.{reading, rowByte, warped};
-ghost use Rattle.geometry.specs.Doors.{canonicalLength};
-ghost use Rattle.geometry.specs.Rectification.{testsWith, laidWhere};
+ghost use Rattle.geometry.specs.Doors.{canonicalLength, canonicalWrong};
+ghost use Rattle.geometry.specs.Rectification.{laidWhere};
 
 // The centre of the pixel in column or row n.
 fn centre(n: usize) -> f64
@@ -102,6 +101,16 @@ pub fn canonical_wrong(frame: FrameSpec, n: usize) -> bool
 
 // ---- rectify
 
+// Refusal 4; false where the frame is outside its limits: 1 goes before 4.
+fn canonical_refused(frame: FrameSpec, n: usize) -> bool
+    ensures { λ r. ⌜ (frameOutside frame ≡ false → r ≡ canonicalWrong frame n) ⌝ }
+{
+    if frame_outside(frame) {
+        return false;
+    }
+    canonical_wrong(frame, n)
+}
+
 // The lowest number of the tests of `rectify` that applies, or 0.
 pub fn refused(
     capture: &[u8],
@@ -112,27 +121,12 @@ pub fn refused(
     means: usize,
     canonical: usize,
 ) -> u32
-    ensures { λ r. ⌜ r ≡ lowestOf (testsWith (image w h (now (capture .entry))) frame lengths means canonical) ⌝ }
+    ensures { λ r. ⌜ r ≡ lowestOf (pictureTests (image w h (now (capture .entry))) frame
+        (fitShort (image w h (now (capture .entry))) frame lengths means) (canonicalWrong frame canonical)) ⌝ }
 {
-    if frame_outside(frame) {
-        return 1;
-    }
-    if capture_wrong(capture, w, h) {
-        return 2;
-    }
-    if shorter(lengths, smallest(w, h)) | (means < sampled_cells(frame)) {
-        return 3;
-    }
-    if canonical_wrong(frame, canonical) {
-        return 4;
-    }
-    if no_layout(frame) {
-        return 5;
-    }
-    if capture_small(w, h) {
-        return 6;
-    }
-    0
+    let short = areas_short(w, h, lengths) | means_short(frame, means);
+    let wrong = canonical_refused(frame, canonical);
+    picture_refused(capture, w, h, frame, short, wrong)
 }
 
 // The canonical image under the fit of a picture that is not refused; else it stays.

@@ -45,8 +45,3 @@ m5 = refl
 pub m6 : lowestOf (layoutTests (frame 191 192 1 48)) ≡ 5
 unfolding lowestOf layoutTests frameOutside side cellHeld noLayout marker quietZone markerSize
 m6 = refl
-
--- 1 goes before 5
-pub one-before-five : lowestOf (layoutTests (frame 191 192 0 4097)) ≡ 1
-unfolding lowestOf layoutTests frameOutside side cellHeld noLayout marker quietZone markerSize
-one-before-five = refl

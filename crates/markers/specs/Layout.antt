@@ -22,7 +22,7 @@ quietZone cell = markerSize cell / 6
 unfoldable pub marginFor : ℕ → ℕ
 marginFor cell = markerSize cell + 2 * quietZone cell
 
--- `frame_spec`, and FrameSpec's own `new`, whose margin is one cell
+-- `frame_spec`: the margin is that for the cell (FrameSpec's own `new` has a margin of one cell: frame/specs/Frame)
 unfoldable pub frameSpec : ℕ → ℕ → ℕ → FrameSpec
 frameSpec width height cell = record { width = width; height = height; cell = cell; margin = marginFor cell }
 

@@ -1,5 +1,6 @@
 // The four corner markers: sizes, layout, centres and stamping. Each marker is a bullseye of
 // concentric squares, six units on a side: black ring, white ring, black dot.
+mod constants;
 pub mod internal;
 mod stamp;
 

@@ -1,4 +1,5 @@
-// What the layers above call without the doors' tests.
+// The integral, the mean over a box and the adaptive black mask. Crates above call `planes` alone,
+// once refusals 1 to 6 are ruled out.
 use frame::FrameSpec;
 use sampling::internal::min;
 use sampling::internal::to_f64;

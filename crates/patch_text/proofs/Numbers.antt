@@ -1,7 +1,6 @@
--- The decimal digits that `io` writes are those of `decimal`; the lines one after another. Assumes nothing.
+-- The decimal digits of a number; what was written, one piece after another. Assumes nothing.
 use Prim.Native.Nat.{ℕ, zero, suc, _+_, _-_, _*_, _/_, _%_, _^_, _≤_, _<_}
 use native.Mathlib.Nat.{pow-suc, pow-zero}
-use native.Mathlib.Decide.{decLt}
 use Rattle.base.specs.Loops.{table}
 use Rattle.blobs.proofs.Records.{table-more, length-table}
 use native.Mathlib.Omega.{arith}
@@ -10,47 +9,77 @@ use mathlib.Core.List.{List, [], _∷_, _++_, append-assoc}
 use lib.Dec.{ltb}
 use borrow.Author.Tests.{lt-ltb, le-ltb}
 use Rattle.base.proofs.Pick.{pick-yes, pick-no}
-use Rattle.io.specs.Digits.{digits, glyph, Fewest}
 use Rattle.blobs.specs.declared.Blob.{Blob}
-use native.Mathlib.Nat.{add-zero, add-suc}
+use native.Mathlib.Nat.{add-zero}
 use native.Mathlib.Numerals.{add-one}
-use lib.ListN.{length, getD, set, take}
-use lib.Seq.{take-suc, take-suc-set}
+use lib.ListN.{length, getD, set, take, drop, length-set, length-drop, drop-of-length-le}
+use lib.Seq.{take-all, take-suc, take-suc-set, drop-cons, drop-set-lt, getD-set-same}
 use Rattle.blobs.proofs.Parts.{append-none}
 use Rattle.patch_text.specs.Text.{blank, feed, spelled, decimal, field, recordLine, recordLines, patchText}
 use Rattle.patch_text.specs.Steps.{Written}
 
-digit : (n : ℕ) → glyph (n % 10) ≡ 48 + n % 10
-digit n = sym (pick-yes (ltb (n % 10) 10) (48 + n % 10) (87 + n % 10) (lt-ltb (n % 10) 10 (omega arith)))
+-- ---- the digits of a number, the last first: `spelled k` has room for k of them
+module _ (k : ℕ) (n : ℕ) where
+  spelled-last : n < 10 → spelled (suc k) n ≡ (48 + n) ∷ []
+  unfolding spelled
+  spelled-last l = sym (pick-yes (ltb n 10) ((48 + n) ∷ []) _ (lt-ltb n 10 l))
 
-positive : (k : ℕ) → 1 ≤ 10 ^ k
-positive zero = omega (arith, pow-zero 10)
-positive (suc k) = omega (arith, pow-suc 10 k, positive k)
+  spelled-more : 10 ≤ n → spelled (suc k) n ≡ spelled k (n / 10) ++ ((48 + n % 10) ∷ [])
+  unfolding spelled
+  spelled-more l = sym (pick-no (ltb n 10) ((48 + n) ∷ []) _ (le-ltb n 10 l))
 
-less-one : (k : ℕ) → suc k - 1 ≡ k
-less-one k = omega arith
+drop-store : (d : List ℕ) (k x : ℕ) → k < length d → drop k (set d k x) ≡ x ∷ drop (suc k) d
+drop-store d k x l =
+    drop-cons (set d k x) k 0 (omega (arith, length-set d k x))
+    ∙ ap₂ (λ y z. y ∷ z) (getD-set-same d k x 0 l) (drop-set-lt (suc k) d k x (omega arith))
 
-spells : (f k n : ℕ) → k ≤ f → Fewest 10 1 n k → digits 10 k n ≡ spelled f n
-unfolding spelled
-spells f zero n l h = absurd (omega (arith, h .0))
-spells zero (suc k) n l h = absurd (omega arith)
-spells (suc f) (suc zero) n l h =
-    let small : n < 10 = omega (arith, h .1, pow-suc 10 zero, pow-zero 10) in
-    let e : n % 10 ≡ n = omega arith in
-    ap (λ x. x ∷ []) (digit n ∙ ap (λ x. 48 + x) e) ∙ pick-yes (ltb n 10) ((48 + n) ∷ []) _ (lt-ltb n 10 small)
-spells (suc f) (suc (suc k)) n l h =
-    let p : 10 ^ suc (suc k) ≡ 10 ^ suc k * 10 = pow-suc 10 (suc k) in
-    let q : 10 ^ suc k ≡ 10 ^ k * 10 = pow-suc 10 k in
-    let most : n < 10 ^ suc (suc k) = h .1 in
-    let least : 10 ^ suc k ≤ n = subst (λ x. 10 ^ x ≤ n) (less-one (suc k)) (h .2 (omega arith)) in
-    let few : 1 ≤ 10 ^ k = positive k in
-    let fewest : Fewest 10 1 (n / 10) (suc k) = (omega arith, omega arith, λ z. subst (λ x. 10 ^ x ≤ n / 10) (sym (less-one k)) (omega arith)) in
-    ap₂ (λ x y. x ++ (y ∷ [])) (spells f (suc k) (n / 10) (omega arith) fewest) (digit n)
-    ∙ pick-no (ltb n 10) ((48 + n) ∷ []) (spelled f (n / 10) ++ ((48 + n % 10) ∷ [])) (le-ltb n 10 (omega arith))
+-- the digits of n are those of the rest, then those that stand at the end of d
+pub record Digits (n : ℕ) (d : List ℕ) (at rest : ℕ) : Type 0 where
+  pub text : spelled at rest ++ drop at d ≡ decimal n
+  pub some : 1 ≤ at
+  pub room : rest < 10 ^ at
+  pub within : at ≤ length d
 
-pub decimal-is : (k n : ℕ) → k ≤ 20 → Fewest 10 1 n k → digits 10 k n ≡ decimal n
+pub digits-none : (n : ℕ) (d : List ℕ) → length d ≡ 20 → n < 2 ^ 64 → Digits n d 20 n
 unfolding decimal
-decimal-is k n l h = spells 20 k n l h
+digits-none n d e l =
+    record {
+      text = ap (λ x. spelled 20 n ++ x) (drop-of-length-le d {i = 20} (omega arith)) ∙ append-none (spelled 20 n);
+      some = omega arith;
+      room = omega arith;
+      within = omega arith;
+    }
+
+-- a number of two digits or more leaves room for the next
+more-room : (k n : ℕ) → 10 ≤ n → n < 10 ^ suc k → 1 ≤ k
+more-room zero n l h = absurd (omega (arith, pow-suc 10 zero, pow-zero 10))
+more-room (suc k) n l h = omega arith
+
+pub digits-more : (n : ℕ) (d : List ℕ) (at rest : ℕ) → 10 ≤ rest → Digits n d at rest → Digits n (set d (at - 1) (48 + rest % 10)) (at - 1) (rest / 10)
+digits-more n d zero rest l h = absurd (omega (arith, h .some))
+digits-more n d (suc k) rest l h =
+    let e : suc k - 1 ≡ k = omega arith in
+    let x : ℕ = 48 + rest % 10 in
+    subst (λ i. Digits n (set d i x) i (rest / 10)) (sym e)
+    record {
+      text =
+          ap (λ y. spelled k (rest / 10) ++ y) (drop-store d k x (h .within))
+          ∙ sym (append-assoc (spelled k (rest / 10)) (x ∷ []) (drop (suc k) d))
+          ∙ ap (λ y. y ++ drop (suc k) d) (sym (spelled-more k rest l))
+          ∙ h .text;
+      some = more-room k rest l (h .room);
+      room = omega (arith, h .room, pow-suc 10 k);
+      within = omega (arith, h .within, length-set d k x);
+    }
+
+pub digits-last : (n : ℕ) (d : List ℕ) (at rest : ℕ) → rest < 10 → Digits n d at rest → drop (at - 1) (set d (at - 1) (48 + rest)) ≡ decimal n
+digits-last n d zero rest l h = absurd (omega (arith, h .some))
+digits-last n d (suc k) rest l h =
+    let e : suc k - 1 ≡ k = omega arith in
+    ap (λ i. drop i (set d i (48 + rest))) e
+    ∙ drop-store d k (48 + rest) (h .within)
+    ∙ ap (λ y. y ++ drop (suc k) d) (sym (spelled-last k rest l))
+    ∙ h .text
 
 -- ---- lines
 pub lines-more : (l : List Blob) (b : Blob) → recordLines (l ++ (b ∷ [])) ≡ recordLines l ++ recordLine b
@@ -81,27 +110,14 @@ copy-more o o₁ b at i l r e =
     ∙ append-assoc (take at o) (take i b) (getD b i 0 ∷ [])
     ∙ ap (λ x. take at o ++ x) (sym (take-suc b i 0 l) ∙ ap (λ n. take n b) (sym (add-one i)))
 
--- twenty digits hold a number of 64 bits
-ten-more : (j : ℕ) → 10 ^ 20 ≤ 10 ^ (20 + j)
-ten-more zero = omega arith
-ten-more (suc j) = let e : 10 ^ (20 + suc j) ≡ 10 ^ (20 + j) * 10 = ap (λ n. 10 ^ n) (add-suc 20 j) ∙ pow-suc 10 (20 + j) in omega (arith, ten-more j)
+-- ---- a number written: the digits at the end of d, from k on
+pub digits-part : (d : List ℕ) (k : ℕ) → length d ≡ 20 → take (20 - k) (drop k d) ≡ drop k d
+digits-part d k e = take-all (20 - k) (drop k d) (omega (arith, length-drop k d))
 
-pub few-digits : (k n : ℕ) → n < 2 ^ 64 → Fewest 10 1 n k → k ≤ 20
-few-digits k n l h = go (decLt 20 k)
-  where
-    go : Dec (20 < k) → k ≤ 20
-    go (no o) = omega arith
-    go (yes y) =
-        let e : 20 + (k - 21) ≡ k - 1 = omega arith in
-        let a : 10 ^ 20 ≤ 10 ^ (k - 1) = subst (λ x. 10 ^ 20 ≤ 10 ^ x) e (ten-more (k - 21)) in
-        let b : 10 ^ (k - 1) ≤ n = h .2 (omega arith) in
-        absurd (omega arith)
-
--- ---- a number written
-pub put-is : (o o₁ d : List ℕ) (at end k n after : ℕ) → end < length o₁ → take end o₁ ≡ take at o ++ d → end ≡ at + k → k ≤ 20 → d ≡ decimal n
+pub put-is : (o o₁ d : List ℕ) (at end n after : ℕ) → end < length o₁ → take end o₁ ≡ take at o ++ d → end ≡ at + length d → length d ≤ 20 → d ≡ decimal n
     → Written o (set o₁ end after) at (end + 1) 21 (field n after)
 unfolding field
-put-is o o₁ d at end k n after l e ee f de =
+put-is o o₁ d at end n after l e ee f de =
     record {
       text =
           ap (λ x. take x (set o₁ end after)) (add-one end)

@@ -5,7 +5,7 @@ use mathlib.Core.Bool.{cond}
 use mathlib.Core.List.{List, [], _∷_, _++_}
 use mathlib.Core.Logic.{_⊎_}
 use lib.Dec.{ltb, eqb}
-use lib.ListN.{length, getD}
+use lib.ListN.{length, getD, take}
 use Rattle.base.specs.Loops.{table, byRow}
 use Rattle.blobs.specs.Patches.{patchAt, PatchList}
 use Rattle.blobs.specs.declared.Blob.{Blob}
@@ -93,3 +93,8 @@ pub record Printed (w h : ℕ) (m t : List ℕ) : Type 0 where
 pub data Answered (b t : List ℕ) : Type 0 where
   accepted : (w h : ℕ) (m : List ℕ) → Reads b w h m → Printed w h m t → Answered b t
   refused : ((w h : ℕ) (m : List ℕ) → Reads b w h m → ⊥) → t ≡ refusedText → Answered b t
+
+-- t is what the program prints for every input b that it may have read: n bytes of the buffer are the first of b, as
+-- many as fit, or all
+abbrev pub AnsweredWhole : List ℕ → ℕ → List ℕ → Type 0
+AnsweredWhole buffer n t = (b : List ℕ) → take n buffer ≡ take (length buffer) b → Answered b t

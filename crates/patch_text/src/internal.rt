@@ -1,14 +1,42 @@
-// What the programs `patches` and `patch_examples` run.
+// What the programs `patches` and `test_patches` run.
 use crate::print;
 use crate::read;
+ghost use mathlib.Core.Path.{_≡_};
 ghost use Prim.Native.Nat.{_≤_};
 ghost use lib.ListN.{length, take};
-ghost use Rattle.io.specs.Counts.{Counts};
-ghost use Rattle.patch_text.specs.Text.{Answered};
+ghost use Rattle.patch_text.specs.Text.{Answered, AnsweredWhole};
 
-// Puts at the start of `out` what the program prints for `text`, and answers how many bytes that
-// is. The other areas are work space for the largest mask.
-pub fn answer(
+// What a program reads of its input: the 64 lines of 65 bytes of the largest mask and one byte
+// more, by which longer input is told from the largest mask and refused.
+pub const INPUT_LENGTH: usize = 64 * 65 + 1;
+// The longest answer: three numbers and a record for every other pixel of the largest mask, each
+// number at most 20 digits and the letter after it.
+pub const OUTPUT_LENGTH: usize = 3 * 21 + 2048 * 147;
+
+// Puts at the start of `out` what a program prints for its input, and answers how many bytes that
+// is. The program has read `n` bytes of the input into the start of `input`: as many as fit, or all.
+pub fn answer(input: &[u8; INPUT_LENGTH], n: usize, out: &mut [u8; OUTPUT_LENGTH]) -> usize
+    requires { ⌜ n ≤ length (now input) ⌝ }
+    ensures { λ r. ⌜ AnsweredWhole (now (input .entry)) n (take r (now (out .exit))) ⌝ }
+    ensures { λ r. ⌜ (r ≤ length (now (out .exit))) × (r ≡ length (take r (now (out .exit)))) ⌝ }
+{
+    let mut mask = [0u8; 4096];
+    let mut seen = [0u8; 4096];
+    let mut waiting = [0u32; 4096];
+    let mut patches = [0u64; 14336];
+    let all = &input[..];
+    answer_text(
+        &all[..n],
+        &mut mask,
+        &mut seen,
+        &mut waiting,
+        &mut patches,
+        out,
+    )
+}
+
+// The same for a text that is the whole input. The other areas are work space for the largest mask.
+fn answer_text(
     text: &[u8],
     mask: &mut [u8],
     seen: &mut [u8],
@@ -16,9 +44,10 @@ pub fn answer(
     patches: &mut [u64],
     out: &mut [u8],
 ) -> usize
-    requires { ⌜ (4096 ≤ length (now mask)) × (4096 ≤ length (now seen)) × (4096 ≤ length (now waiting)) × (14336 ≤ length (now patches)) × (301119 ≤ length (now out)) ⌝ }
+    requires { ⌜ (4096 ≤ length (now mask)) × (4096 ≤ length (now seen)) × (4096 ≤ length (now waiting)) ×
+        (14336 ≤ length (now patches)) × (301119 ≤ length (now out)) ⌝ }
     ensures { λ r. ⌜ Answered (now (text .entry)) (take r (now (out .exit))) ⌝ }
-    ensures { λ r. ⌜ Counts r (now (out .exit)) ⌝ }
+    ensures { λ r. ⌜ (r ≤ length (now (out .exit))) × (r ≡ length (take r (now (out .exit)))) ⌝ }
 {
     let size = read::mask_size(text);
     let w = size.w;

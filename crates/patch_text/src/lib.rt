@@ -1,4 +1,5 @@
-// The program `patches` on slices: it reads a mask as text and prints its patch list.
+// What the program `patches` answers: from a mask as text to its patch list as text. Nothing here
+// reads or prints.
 pub mod internal; // internal.rt: the whole of it
-mod read; // read.rt: the mask
-mod print; // print.rt: the patch list
+mod read; // read.rt: the mask of a text
+mod print; // print.rt: the text of a patch list

@@ -1,25 +1,13 @@
 // Reads a mask as lines of `#` and `.` from standard input and prints its patch list, or `refused
-// 2` (document 01, "Patches"). What it prints is `patch_text::internal::answer`. The largest mask is
-// 64 lines of 65 bytes: one byte more is read, so that longer input is refused and not cut.
+// 2` (document 01, "Patches"). Only this function reads and prints; what comes between is
+// `patch_text::internal::answer`.
 fn main() {
-    let mut input = [0u8; 4161];
+    let mut input = [0u8; patch_text::internal::INPUT_LENGTH];
     let n = io::read_full(0, &mut input);
-    run(&input[..n]);
-}
-
-fn run(text: &[u8]) {
-    let mut mask = [0u8; 4096];
-    let mut seen = [0u8; 4096];
-    let mut waiting = [0u32; 4096];
-    let mut patches = [0u64; 14336];
-    let mut out = [0u8; 301119];
-    let k = patch_text::internal::answer(
-        text,
-        &mut mask,
-        &mut seen,
-        &mut waiting,
-        &mut patches,
-        &mut out,
-    );
-    io::write_all(1, &out[..k]);
+    let mut out = [0u8; patch_text::internal::OUTPUT_LENGTH];
+    let k = patch_text::internal::answer(&input, n, &mut out);
+    // A program has no exit status to give: that its answer is lost it can only say.
+    if !io::write_all(1, &out[..k]) {
+        io::write_all(2, b"patches: standard output cannot be written\n");
+    }
 }

@@ -1,4 +1,4 @@
 -- Laws of the definitions.
 pub mod Sides
 pub mod Steps
-pub mod Examples
+pub mod Marked

@@ -1,8 +1,7 @@
 -- Radial (document 01, "Homography and lens"). Assumes nothing.
-use mathlib.Core.Path.{_≡_, refl}
 use mathlib.Core.Bool.{cond}
 use Prim.Native.Nat.{ℕ, zero, suc}
-use lib.Ieee.{Float, lt, eq, isNan, ofInt, add, mul, div}
+use lib.Ieee.{Float, lt, eq}
 use Rattle.float.specs.Floats.{_⊕_, _⊖_, _⊗_, _⊘_, f64, tiny, absOf, maxOf}
 use Rattle.float.specs.Root.{sqrtOf}
 use Rattle.frame.specs.declared.Point.{Point}
@@ -17,11 +16,6 @@ radial w h k =
     let cx = f64 w ⊘ f64 2 in
     let cy = f64 h ⊘ f64 2 in
     record { k = k; cx = cx; cy = cy; norm = maxOf (sqrtOf (cx ⊗ cx ⊕ cy ⊗ cy)) (f64 1) }
-
--- M11 capture 60 by 80: norm 50
-pub m11 : (k : Float) → radial 60 80 k .norm ≡ f64 50
-unfolding radial ofInt div mul add sqrtOf maxOf lt isNan
-m11 k = refl
 
 -- ---- `Radial::new`
 
@@ -55,7 +49,7 @@ distort l p =
     let f = f64 1 ⊕ l .k ⊗ r2 in
     cond (eq (l .k) (f64 0)) p (record { x = l .cx ⊕ dx ⊗ f; y = l .cy ⊕ dy ⊗ f })
 
--- Newton's steps on u + k·u³ = rd: "at most six, left early when |dg| < 1e-12"
+-- Newton's steps on u + k·u³ = rd: "at most six Newton steps, left early when |dg| < 1e-12"
 unfoldable pub newton : ℕ → Float → Float → Float → Float
 newton zero k rd u = u
 newton (suc n) k rd u =

@@ -10,8 +10,9 @@
 //
 //     u - g(u) / g'(u),    g'(u) = 1 + 3 k u^2,
 //
-// and divides by 1 + k u^2. Where k < 0, g falls again beyond u = 1 / sqrt(-3 k): a point observed
-// further out than that has no preimage nearby, and the steps wander (docs/DIFFERENCES.md).
+// and divides by 1 + k u^2. Where k < 0, g rises only up to u = 1 / sqrt(-3 k): a point observed
+// further out than rd = 2 / (3 sqrt(-3 k)), 0.861 at k = -0.2, has no preimage nearby, and the steps
+// wander (docs/DIFFERENCES.md).
 pub mod internal;
 
 use frame::Point;

@@ -1,11 +1,7 @@
--- The byte offset of a record in a slice of records fits a usize: the elements of a slice take at most isize::MAX bytes. Assumes nothing.
+-- The byte offset of a record of s bytes in a slice of records fits a usize: the elements of a slice take at most isize::MAX bytes. Assumes nothing.
 use Prim.Native.Nat.{ℕ, _*_, _<_, _^_}
+use native.Mathlib.Nat.{mul-le-mul-right, le-of-lt}
 use native.Mathlib.Omega.{arith}
 
--- a Blob has 56 bytes
-pub blob-offset : (j n : ℕ) → j < n → n * 56 < 2 ^ 63 → j * 56 < 2 ^ 64
-blob-offset j n l r = omega arith
-
--- a Candidate has 40
-pub candidate-offset : (j n : ℕ) → j < n → n * 40 < 2 ^ 63 → j * 40 < 2 ^ 64
-candidate-offset j n l r = omega arith
+pub offset-fits : (s j n : ℕ) → j < n → n * s < 2 ^ 63 → j * s < 2 ^ 64
+offset-fits s j n l r = omega (arith, mul-le-mul-right s (le-of-lt l))

@@ -29,7 +29,7 @@ fn floats(word: &[u8], l: &[f64]) {
     }
 }
 
-pub fn head(capture: usize, s: Sizes) {
+pub(crate) fn head(capture: usize, s: Sizes) {
     let number = [capture as u64];
     line(b"capture", &number);
     let sides = [s.w as u64, s.h as u64];
@@ -45,7 +45,7 @@ pub fn head(capture: usize, s: Sizes) {
 }
 
 // The rest of the block, as far as the answer goes.
-pub fn answer(
+pub(crate) fn answer(
     r: PictureFit,
     s: Sizes,
     mask: &[u8],

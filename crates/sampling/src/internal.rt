@@ -66,10 +66,10 @@ pub fn reading(capture: &[u8], w: usize, h: usize, p: Point) -> Rgb
 {
     let across = span(w, p.x);
     let down = span(h, p.y);
-    let a = frame::internal::px(capture, w, h, across.first, down.first);
-    let b = frame::internal::px(capture, w, h, across.next, down.first);
-    let c = frame::internal::px(capture, w, h, across.first, down.next);
-    let d = frame::internal::px(capture, w, h, across.next, down.next);
+    let a = view::internal::read(capture, w, h, across.first, down.first);
+    let b = view::internal::read(capture, w, h, across.next, down.first);
+    let c = view::internal::read(capture, w, h, across.first, down.next);
+    let d = view::internal::read(capture, w, h, across.next, down.next);
     let tx = across.part;
     let ty = down.part;
     Rgb {

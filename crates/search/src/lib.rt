@@ -1,12 +1,13 @@
 // The lens search: geometry.rs, fit_geometry.
+mod constants;
 pub mod internal;
 mod stages;
 
 use fit::GeometryFit;
 use fit::Grade;
 
-// Largest lens term that is considered: beyond ±1/3 the radial polynomial folds the picture onto
-// itself and scores high there, and 0.20 covers any real camera.
+// Largest lens term that is considered: below -1/3 the radial polynomial falls again within the
+// picture, folds it onto itself and scores high there, and 0.20 covers any real camera.
 pub const K_MAX: f64 = 0.20;
 
 // A trial: no homography, or the grade of its fit.

@@ -13,3 +13,27 @@ mod matrices;
 mod pictures;
 mod slices;
 mod whole;
+
+// For the program test_tablet, which calls each by position.
+pub use fits::tablet_fit_for;
+pub use fits::tablet_grid_score;
+pub use frames::tablet_grid;
+pub use frames::tablet_lengths;
+pub use frames::tablet_marker_centers;
+pub use frames::tablet_marker_numbers;
+pub use frames::tablet_stamp_fiducials;
+pub use lens::tablet_distort;
+pub use lens::tablet_radial;
+pub use lens::tablet_undistort;
+pub use looks::tablet_detect_fiducials;
+pub use looks::tablet_fiducial_candidates;
+pub use matrices::tablet_apply;
+pub use matrices::tablet_from_points;
+pub use matrices::tablet_inverse;
+pub use matrices::tablet_mat3_mul;
+pub use matrices::tablet_rms_error;
+pub use pictures::tablet_bilinear;
+pub use pictures::tablet_label_blobs;
+pub use pictures::tablet_warp_with;
+pub use whole::tablet_fit_geometry;
+pub use whole::tablet_rectify;

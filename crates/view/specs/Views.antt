@@ -24,6 +24,6 @@ pixelAs (suc n) has c = P.Refused (suc n)
 unfoldable pub inside : Image → ℕ → ℕ → Bool
 inside img x y = ltb x (img .w) && ltb y (img .h)
 
--- "making one gives 2 for what is no capture" ("2: capture side outside its limit, or byte length wrong"), and else `px`
+-- "2: capture side outside its limit, or byte length wrong"; else the colour by `px`, where there is such a pixel
 unfoldable pub pixelOf : Image → ℕ → ℕ → Pixel
 pixelOf img x y = pixelAs (lowestOf (captureTests img)) (inside img x y) (px img x y)

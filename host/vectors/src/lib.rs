@@ -1,17 +1,20 @@
 //! What the generators share.
 
+pub mod pictures;
+pub mod stages;
+
+use lpcorepub::frame::FrameSpec;
+use lpcorepub::geometry::{adaptive_black_mask, label_blobs, luma_plane, marker_layout, Candidate};
+use lpcorepub::image::RgbImage;
 use std::fs;
 
-/// splitmix64
+/// The generator of host/scene, with the draws that vectors take.
 pub struct Random(pub u64);
 
 impl Random {
+    #[allow(clippy::should_implement_trait)] // it never ends
     pub fn next(&mut self) -> u64 {
-        self.0 = self.0.wrapping_add(0x9e37_79b9_7f4a_7c15);
-        let mut z = self.0;
-        z = (z ^ (z >> 30)).wrapping_mul(0xbf58_476d_1ce4_e5b9);
-        z = (z ^ (z >> 27)).wrapping_mul(0x94d0_49bb_1331_11eb);
-        z ^ (z >> 31)
+        scene::step(&mut self.0)
     }
 
     pub fn unit(&mut self) -> f64 {
@@ -35,6 +38,29 @@ pub fn bits(x: f64) -> u64 {
     } else {
         x.to_bits()
     }
+}
+
+/// How many patches there are, and the place in their list of each candidate: both stand in one order, so each is looked for after the last.
+pub fn places(img: &RgbImage, spec: &FrameSpec, cands: &[Candidate]) -> (usize, Vec<usize>) {
+    let (w, h) = (img.w, img.h);
+    let (marker, _) = marker_layout(spec).unwrap();
+    let radius = (marker as usize / 3).clamp(8, w.min(h) / 4);
+    let mask = adaptive_black_mask(&luma_plane(img), w, h, radius, 8.0);
+    let blobs = label_blobs(&mask, w, h);
+    let mut found = Vec::new();
+    let mut at = 0;
+    for c in cands {
+        while {
+            let b = &blobs[at];
+            let size = ((b.x1 - b.x0 + 1) as f64 + (b.y1 - b.y0 + 1) as f64) / 2.0;
+            [b.sx / b.area as f64 + 0.5, b.sy / b.area as f64 + 0.5] != c.center || size != c.size
+        } {
+            at += 1;
+        }
+        found.push(at);
+        at += 1;
+    }
+    (blobs.len(), found)
 }
 
 /// Questions as records of 64-bit words, lowest byte first, and answers as hexadecimal words, one a line.
@@ -68,9 +94,14 @@ impl Vectors {
     }
 }
 
+/// The folder of the crate `name`.
+pub fn place(name: &str) -> String {
+    format!("{}/../../crates/{name}", env!("CARGO_MANIFEST_DIR"))
+}
+
 /// Writes stdin and stdout of the program crate `name`.
 pub fn write(name: &str, stdin: &[u8], stdout: &str) {
-    let there = format!("{}/../../crates/{name}", env!("CARGO_MANIFEST_DIR"));
+    let there = place(name);
     fs::write(format!("{there}/stdin"), stdin).unwrap();
     fs::write(format!("{there}/stdout"), stdout).unwrap();
 }

@@ -5,10 +5,10 @@ use Rattle.forms_examples.proofs.look.Statement.{statement}
 use Rattle.forms_examples.proofs.look.Tie as tie
 
 abbrev Inv-loop : tie.InvT-loop
-Inv-loop capture p₀ p = p ≤ 9
+Inv-loop picture p₀ p = p ≤ 9
 
 abbrev μ-loop : tie.MeasureT-loop
-μ-loop capture p₀ p = 9 - p
+μ-loop picture p₀ p = 9 - p
 
 loop-holds : tie.Need-loop-holds Inv-loop μ-loop
 loop-holds c = search needs

@@ -16,6 +16,7 @@ use lpcorepub::frame::FrameSpec;
 use lpcorepub::geometry::*;
 use lpcorepub::image::RgbImage;
 use std::fmt::Write;
+use vectors::{bits, places};
 
 struct Picture {
     w: usize,
@@ -237,37 +238,6 @@ fn small(quad: &[[f64; 2]; 4], w: usize, h: usize) -> bool {
             .sum::<f64>())
         .abs();
     area < 0.04 * (w * h) as f64
-}
-
-// The place in the patch list of each candidate: both stand in one order, so each is looked for after the last.
-fn places(img: &RgbImage, spec: &FrameSpec, cands: &[Candidate]) -> (usize, Vec<usize>) {
-    let (w, h) = (img.w, img.h);
-    let (marker, _) = marker_layout(spec).unwrap();
-    let radius = (marker as usize / 3).clamp(8, w.min(h) / 4);
-    let mask = adaptive_black_mask(&luma_plane(img), w, h, radius, 8.0);
-    let blobs = label_blobs(&mask, w, h);
-    let mut found = Vec::new();
-    let mut at = 0;
-    for c in cands {
-        while {
-            let b = &blobs[at];
-            let size = ((b.x1 - b.x0 + 1) as f64 + (b.y1 - b.y0 + 1) as f64) / 2.0;
-            [b.sx / b.area as f64 + 0.5, b.sy / b.area as f64 + 0.5] != c.center || size != c.size
-        } {
-            at += 1;
-        }
-        found.push(at);
-        at += 1;
-    }
-    (blobs.len(), found)
-}
-
-fn bits(x: f64) -> u64 {
-    if x.is_nan() {
-        0x7ff8_0000_0000_0000
-    } else {
-        x.to_bits()
-    }
 }
 
 fn main() {

@@ -15,41 +15,13 @@
 // trials and of homographies. Every NaN is written as one. The original has no refusal numbers: they are document 01's.
 use lpcorepub::frame::FrameSpec;
 use lpcorepub::geometry::{
-    adaptive_black_mask, bilinear, detect_fiducials, fiducial_candidates, fit_for, fit_geometry, grid_score, label_blobs, luma_plane,
-    marker_layout, stamp_fiducials, GeometryFit, Homography, Radial, K_MAX, K_STAGES, TAPS,
+    adaptive_black_mask, detect_fiducials, fiducial_candidates, fit_for, fit_geometry, grid_score, label_blobs, luma_plane, marker_layout,
+    GeometryFit, Homography, Radial,
 };
 use lpcorepub::image::RgbImage;
+use vectors::pictures::{card, frame, frame_held, frame_words, noise, outside, photograph, put_fit, sampled};
+use vectors::stages::searched;
 use vectors::{Random, Vectors};
-
-// Matrix and lens.
-fn put_fit(v: &mut Vectors, fit: &GeometryFit) {
-    for row in fit.h.m {
-        for x in row {
-            v.float(x);
-        }
-    }
-    for x in [fit.radial.k, fit.radial.cx, fit.radial.cy, fit.radial.norm] {
-        v.float(x);
-    }
-}
-
-fn frame_words(f: &FrameSpec) -> [u64; 4] {
-    [f.width, f.height, f.cell, f.margin].map(|n| n as u64)
-}
-
-fn frame(width: usize, height: usize, cell: usize, margin: usize) -> FrameSpec {
-    FrameSpec { width, height, cell, margin }
-}
-
-fn frame_held(f: &FrameSpec) -> bool {
-    let side = |n: usize| (1..=4096).contains(&n);
-    side(f.width) && side(f.height) && (1..=512).contains(&f.cell) && f.margin <= 4096
-}
-
-// The numbers of cells that are sampled.
-fn sampled(f: &FrameSpec) -> usize {
-    f.rows().div_ceil(3) * f.cols().div_ceil(3)
-}
 
 // ---- grid_examples
 
@@ -75,22 +47,6 @@ fn ask_fit_for(v: &mut Vectors, w: usize, h: usize, f: &FrameSpec, points: &[[f6
             put_fit(v, &fit);
         }
     }
-}
-
-// The first cell, by rows, with a tap outside the picture.
-fn outside(img: &RgbImage, f: &FrameSpec, fit: &GeometryFit) -> Option<usize> {
-    for r in (0..f.rows()).step_by(3) {
-        for c in (0..f.cols()).step_by(3) {
-            let (x0, y0) = f.cell_origin(c, r);
-            for i in 0..9 {
-                let p = fit.map([x0 as f64 + TAPS[i % 3] * f.cell as f64, y0 as f64 + TAPS[i / 3] * f.cell as f64]);
-                if p[0] < 0.0 || p[1] < 0.0 || p[0] >= img.w as f64 || p[1] >= img.h as f64 {
-                    return Some(r * f.cols() + c);
-                }
-            }
-        }
-    }
-    None
 }
 
 fn ask_grid_score(v: &mut Vectors, img: &RgbImage, f: &FrameSpec, fit: &GeometryFit, means: usize) {
@@ -121,14 +77,6 @@ fn ask_grid_score(v: &mut Vectors, img: &RgbImage, f: &FrameSpec, fit: &Geometry
         }
         None => v.word(if sampled(f) < 16 { 2 } else { 0 }),
     }
-}
-
-fn noise(w: usize, h: usize, rng: &mut Random) -> RgbImage {
-    let mut img = RgbImage::new(w, h);
-    for b in img.data.iter_mut() {
-        *b = rng.next() as u8;
-    }
-    img
 }
 
 fn scaled(sx: f64, sy: f64, dx: f64, dy: f64) -> Homography {
@@ -185,7 +133,7 @@ fn grid_vectors() -> Vectors {
         scaled(f64::NAN, 1.0, 0.0, 30.0),
         scaled(1.0, f64::NAN, 0.0, 0.0),
     ] {
-        ask_grid_score(&mut v, &picture, &sixteen, &at(h.clone(), 0.0), 16);
+        ask_grid_score(&mut v, &picture, &sixteen, &at(h, 0.0), 16);
         ask_grid_score(&mut v, &picture, &sixteen, &at(h, 0.1), 16);
     }
     let identity = at(scaled(1.0, 1.0, 0.0, 0.0), 0.0);
@@ -202,58 +150,12 @@ fn grid_vectors() -> Vectors {
 
 // ---- fit_examples
 
-// A canonical card of random grey and coloured cells.
-fn card(f: &FrameSpec, rng: &mut Random) -> RgbImage {
-    let mut img = RgbImage::new(f.width, f.height);
-    img.fill_rect(0, 0, f.width, f.height, [230, 226, 220]);
-    for r in 0..f.rows() {
-        for c in 0..f.cols() {
-            let (x, y) = f.cell_origin(c, r);
-            let light = 60 + rng.next() % 180;
-            let colour = [light, light, light ^ (rng.next() % 32)].map(|n| n as u8);
-            img.fill_rect(x, y, f.cell, f.cell, colour);
-        }
-    }
-    stamp_fiducials(&mut img, f);
-    img
-}
-
-// The card seen with its corners at these places of a picture of w by h, through a lens term k.
-fn photograph(card: &RgbImage, w: usize, h: usize, corners: [[f64; 2]; 4], k: f64) -> RgbImage {
-    let (cw, ch) = (card.w as f64, card.h as f64);
-    let back = Homography::from_points(&corners, &[[0.0, 0.0], [cw, 0.0], [cw, ch], [0.0, ch]]).unwrap();
-    let lens = Radial::new(w, h, k);
-    let mut img = RgbImage::new(w, h);
-    for y in 0..h {
-        for x in 0..w {
-            let p = back.apply(lens.undistort([x as f64 + 0.5, y as f64 + 0.5]));
-            let inside = p[0] >= 0.0 && p[1] >= 0.0 && p[0] < cw && p[1] < ch;
-            img.set(x, y, if inside { bilinear(card, p[0], p[1]) } else { [205, 204, 200] });
-        }
-    }
-    img
-}
-
-// The search again, by the original's own parts: how many trials have a homography, and the kept score.
+// How many trials have a homography; the search by the original's parts ends where fit_geometry does.
 fn homographies(img: &RgbImage, f: &FrameSpec) -> u64 {
-    let obs = detect_fiducials(img, f).unwrap();
-    let mut count = 0;
-    let mut centre = 0.0f64;
-    for (span, step) in K_STAGES {
-        let mut stage: Option<(f64, f64)> = None;
-        for i in 0..=(2.0 * span / step).round() as i64 {
-            let k = (centre - span + step * i as f64).clamp(-K_MAX, K_MAX);
-            let Some(fit) = fit_for(img, f, &obs, k) else { continue };
-            count += 1;
-            let score = grid_score(img, f, &fit);
-            if stage.is_none_or(|(best, _)| score > best) {
-                stage = Some((score, k));
-            }
-        }
-        centre = stage.unwrap().1;
-    }
-    assert!(centre.to_bits() == fit_geometry(img, f).unwrap().radial.k.to_bits());
-    count
+    let s = searched(img, f, &detect_fiducials(img, f).unwrap());
+    let (_, fit) = s.kept.unwrap();
+    assert!(fit.radial.k.to_bits() == fit_geometry(img, f).unwrap().radial.k.to_bits());
+    s.found.iter().sum()
 }
 
 fn ask_fit_geometry(v: &mut Vectors, name: &str, img: &RgbImage, f: &FrameSpec, means: usize) {

@@ -66,7 +66,7 @@ fn sqrt_inputs() -> Vec<f64> {
         let mid = (r.next() >> 11 | 1 << 52) as u128 * 2 + 1;
         around(&mut l, (mid * mid) as f64);
     }
-    l.extend([2.0, 3.0, 0.25, 1e-300, 1e300, 1e-308, 5e-324]);
+    l.extend([2.0, 3.0, 4.0, 0.25, 1e-300, 1e300, 1e-308, 5e-324]);
     l
 }
 

@@ -30,6 +30,7 @@ impl Asked {
         }
     }
 
+    #[allow(clippy::wrong_self_convention)] // called as what is asked
     fn from_points(&mut self, src: &Quad, dst: &Quad) {
         self.ask(0, &[src.concat(), dst.concat()].concat());
         self.solved(Homography::from_points(src, dst), 10);
@@ -71,7 +72,7 @@ const ODD: [f64; 16] = [
     2.2250738585072014e-308,
     1e-160,
     1e-12,
-    9.999999999999999e-13,
+    9.999999999999998e-13,
     -1e-12,
     1e160,
     f64::MAX,
@@ -140,9 +141,8 @@ fn points(v: &mut Asked, r: &mut Random) {
         let mut src = quad(r, 50.0);
         let t = r.unit();
         let off = 10f64.powi(-n);
-        for k in 0..2 {
-            src[1][k] = src[0][k] + (src[2][k] - src[0][k]) * t + off;
-        }
+        let [a, _, c, _] = src;
+        src[1] = [a[0] + (c[0] - a[0]) * t + off, a[1] + (c[1] - a[1]) * t + off];
         let dst = quad(r, 50.0);
         if n % 2 == 0 {
             v.from_points(&src, &dst);
@@ -212,9 +212,9 @@ fn applied(v: &mut Asked, r: &mut Random) {
         let p = [r.between(-2000.0, 4000.0), r.between(-2000.0, 4000.0)];
         v.apply(&m, p);
     }
-    // w at 0 and around 1e-12 of either sign
+    // w at 0 and around 1e-12 of either sign, the next float on each side of it too
     for w in
-        [0.0, -0.0, 1e-12, -1e-12, 9.999999999999999e-13, -9.999999999999999e-13, 1.0000000000000002e-12, -5e-324, f64::NAN, f64::INFINITY]
+        [0.0, -0.0, 1e-12, -1e-12, 9.999999999999998e-13, -9.999999999999998e-13, 1.0000000000000002e-12, -5e-324, f64::NAN, f64::INFINITY]
     {
         v.apply(&[[1.0, 2.0, 3.0], [4.0, 5.0, -6.0], [0.0, 0.0, w]], [0.5, -0.25]);
     }

@@ -168,7 +168,7 @@ fn main() {
     }
     let bench = frame(848, 636, 10, 106);
     let card = frame(192, 192, 1, 48);
-    // M4 to M6, then a side one below four margins, markers of side 24 and 23, and no room for the quiet zone.
+    // M4 to M6, a side one below four margins, markers of side 24 and 23, and no room for the quiet zone.
     let laid = [
         bench,
         card,
@@ -181,6 +181,8 @@ fn main() {
         frame(424, 424, 10, 106),
         frame(423, 424, 10, 106),
         frame(196, 197, 1, 49),
+        // 1 goes before 5
+        frame(191, 192, 0, 4097),
     ];
     for f in laid.into_iter().chain(limits()) {
         out.grid(f);

@@ -7,6 +7,7 @@
 use lpcorepub::frame::FrameSpec;
 use lpcorepub::geometry::{adaptive_black_mask, luma_plane, marker_layout};
 use lpcorepub::image::RgbImage;
+use vectors::pictures::integral_of;
 use vectors::Random;
 
 const W: usize = 40;
@@ -33,19 +34,6 @@ fn picture() -> RgbImage {
         }
     }
     img
-}
-
-// The integral is a local of adaptive_black_mask: its loop, as it stands there.
-fn integral_of(luma: &[f32], w: usize, h: usize) -> Vec<f64> {
-    let mut integral = vec![0f64; (w + 1) * (h + 1)];
-    for y in 0..h {
-        let mut row = 0f64;
-        for x in 0..w {
-            row += luma[y * w + x] as f64;
-            integral[(y + 1) * (w + 1) + x + 1] = integral[y * (w + 1) + x + 1] + row;
-        }
-    }
-    integral
 }
 
 fn main() {

@@ -1,7 +1,9 @@
-//! Inputs and outputs of the programs `patches` and `patch_examples`. In host/vectors, after host/oracle/prepare:
+//! Inputs and outputs of the programs `patches` and `test_patches`. In host/vectors, after host/oracle/prepare:
 //!   CARGO_TARGET_DIR=../target cargo run --release --offline --bin patches
-//! writes crates/patches/{stdin,stdout} and crates/patch_examples/{stdin,stdout}. Patch lists are those of the original's
+//! writes crates/patches/{stdin,stdout} and crates/test_patches/{args,data/,stdout}. Patch lists are those of the original's
 //! `label_blobs`; what is refused, and the layout of the text, are document 01's.
+
+use std::fs;
 
 const REFUSED: &str = "refused 2\n";
 
@@ -72,90 +74,121 @@ fn mixed(w: usize, h: usize, k: u64, seed: u64) -> Mask {
     Mask { w, h, dark }
 }
 
-fn main() {
-    let mut cases: Vec<(Vec<u8>, String)> = Vec::new();
-    let from = |rows: &[&str]| mask(rows[0].len(), rows.len(), |x, y| rows[y].as_bytes()[x] == b'#');
+/// An input of `test_patches`, by the name of its file, and what is printed for it.
+struct Case {
+    name: &'static str,
+    text: Vec<u8>,
+    printed: String,
+}
 
-    // M7, M8, and M7 without its last line feed
-    let m7 = from(&["#.#", ".#.", "##."]);
-    let m8 = from(&["#.#", "#.#", "###"]);
-    let mut accepted = vec![m7, m8];
-    accepted.push(from(&["#"]));
-    accepted.push(from(&["."]));
-    accepted.push(from(&["##.."]));
-    accepted.push(from(&["#", ".", "#"]));
-    // joins of U shapes, upright, upside down and on their sides; nested; a row's end and the next row's start
-    accepted.push(from(&["###", "#.#", "#.#"]));
-    accepted.push(from(&["###", "#..", "###"]));
-    accepted.push(from(&["###", "..#", "###"]));
-    accepted.push(from(&["#.#.#", "#.#.#", "#.#.#", "#...#", "#####"]));
-    accepted.push(from(&["..#", "#.."]));
-    accepted.push(from(&["...##", "##..."]));
-    // 64 by 64: full, empty, checkerboard, spiral, combs
-    accepted.push(mask(64, 64, |_, _| true));
-    accepted.push(mask(64, 64, |_, _| false));
-    accepted.push(mask(64, 64, |x, y| (x + y) % 2 == 0));
-    accepted.push(spiral(64));
-    accepted.push(mask(64, 64, |x, y| y == 63 || x % 2 == 0));
-    accepted.push(mask(64, 3, |x, y| y == 0 || x % 2 == 0));
-    accepted.push(mask(64, 1, |x, _| x % 3 != 0));
-    accepted.push(mask(1, 64, |_, y| y % 3 != 0));
-    accepted.push(mixed(17, 11, 4, 1));
-    accepted.push(mixed(31, 20, 5, 2));
-    for m in &accepted {
-        cases.push((text(m), listing(m)));
-    }
-    // the last line feed may lack
-    for m in [&accepted[0], &accepted[2], &accepted[6], &accepted[17]] {
-        let mut t = text(m);
-        t.pop();
-        cases.push((t, listing(m)));
-    }
-    // refused
+fn accepted() -> Vec<(&'static str, Mask)> {
+    let from = |rows: &[&str]| mask(rows[0].len(), rows.len(), |x, y| rows[y].as_bytes()[x] == b'#');
+    vec![
+        ("m7", from(&["#.#", ".#.", "##."])),
+        ("m8", from(&["#.#", "#.#", "###"])),
+        ("one_dark", from(&["#"])),
+        ("one_light", from(&["."])),
+        ("one_row", from(&["##.."])),
+        ("one_column", from(&["#", ".", "#"])),
+        // joins of U shapes, upside down and on their sides; nested; a row's end and the next row's start
+        ("u_upside_down", from(&["###", "#.#", "#.#"])),
+        ("u_open_right", from(&["###", "#..", "###"])),
+        ("u_open_left", from(&["###", "..#", "###"])),
+        ("u_nested", from(&["#.#.#", "#.#.#", "#.#.#", "#...#", "#####"])),
+        ("row_end", from(&["..#", "#.."])),
+        ("row_end_two", from(&["...##", "##..."])),
+        // the largest
+        ("full", mask(64, 64, |_, _| true)),
+        ("light", mask(64, 64, |_, _| false)),
+        ("checkerboard", mask(64, 64, |x, y| (x + y) % 2 == 0)),
+        ("spiral", spiral(64)),
+        ("comb_up", mask(64, 64, |x, y| y == 63 || x % 2 == 0)),
+        ("comb_down", mask(64, 3, |x, y| y == 0 || x % 2 == 0)),
+        ("row_64", mask(64, 1, |x, _| x % 3 != 0)),
+        ("column_64", mask(1, 64, |_, y| y % 3 != 0)),
+        ("mixed_17_11", mixed(17, 11, 4, 1)),
+        ("mixed_31_20", mixed(31, 20, 5, 2)),
+    ]
+}
+
+fn refused() -> Vec<(&'static str, Vec<u8>)> {
     let full = text(&mask(64, 64, |_, _| true));
-    let mut refused: Vec<Vec<u8>> = vec![
-        vec![],
-        b"\n".to_vec(),
-        b"\n\n".to_vec(),
-        b"#\n\n".to_vec(),
-        b"\n#\n".to_vec(),
-        b"#\n\n#\n".to_vec(),
-        b"#.#\n.#\n##.\n".to_vec(),
-        b"#.#\n.#.#\n##.\n".to_vec(),
-        b"#.#\n.#.\n##".to_vec(),
-        b"#.#\r\n.#.\r\n##.\r\n".to_vec(),
-        b"#.#\n.#.\n##.\r".to_vec(),
-        b"#.#\n.\0.\n##.\n".to_vec(),
-        b"#.#\n.#.\n##.\0".to_vec(),
-        b"#.#\n.#.\n##.\n\0".to_vec(),
-        b"#.x\n".to_vec(),
-        b" #.\n".to_vec(),
-        b"# .\n".to_vec(),
-        text(&mask(65, 1, |_, _| true)),
-        text(&mask(1, 65, |_, _| true)),
-        vec![b'#'; 65],
-        vec![b'#'; 10000],
-        [b"#\n".repeat(64), b"#".to_vec()].concat(),
-        [full.clone(), b"\n".to_vec()].concat(),
-        [full.clone(), b"#".to_vec()].concat(),
-    ];
-    // a last line too short by one, one wrong letter at the very end
     let mut short = full.clone();
     short.truncate(4158);
-    refused.push(short);
-    for t in refused {
-        cases.push((t, REFUSED.to_string()));
-    }
+    vec![
+        ("nothing", vec![]),
+        ("line_feed", b"\n".to_vec()),
+        ("line_feeds", b"\n\n".to_vec()),
+        ("empty_last_line", b"#\n\n".to_vec()),
+        ("empty_first_line", b"\n#\n".to_vec()),
+        ("empty_line_between", b"#\n\n#\n".to_vec()),
+        ("short_line", b"#.#\n.#\n##.\n".to_vec()),
+        ("long_line", b"#.#\n.#.#\n##.\n".to_vec()),
+        ("short_last_line", b"#.#\n.#.\n##".to_vec()),
+        ("carriage_returns", b"#.#\r\n.#.\r\n##.\r\n".to_vec()),
+        ("last_carriage_return", b"#.#\n.#.\n##.\r".to_vec()),
+        ("zero_in_line", b"#.#\n.\0.\n##.\n".to_vec()),
+        ("zero_for_line_feed", b"#.#\n.#.\n##.\0".to_vec()),
+        ("zero_at_end", b"#.#\n.#.\n##.\n\0".to_vec()),
+        ("other_letter", b"#.x\n".to_vec()),
+        ("blank_first", b" #.\n".to_vec()),
+        ("blank_between", b"# .\n".to_vec()),
+        ("wide_65", text(&mask(65, 1, |_, _| true))),
+        ("wide_65_unended", vec![b'#'; 65]),
+        ("wide_65_high_64", text(&mask(65, 64, |_, _| true))),
+        ("wide_10000", vec![b'#'; 10000]),
+        ("high_65", text(&mask(1, 65, |_, _| true))),
+        ("high_65_unended", [b"#\n".repeat(64), b"#".to_vec()].concat()),
+        ("full_but_one", short),
+        // past the largest mask: cut after its 4,160 bytes each of these would be accepted
+        ("full_and_letter", [full.clone(), b"#".to_vec()].concat()),
+        ("full_and_line_feed", [full.clone(), b"\n".to_vec()].concat()),
+        ("full_and_two_letters", [full.clone(), b"#.".to_vec()].concat()),
+        ("full_and_line", text(&mask(64, 65, |_, _| true))),
+    ]
+}
 
-    vectors::write("patches", &cases[0].0, &cases[0].1);
-    let mut input = Vec::new();
-    let mut output = String::new();
-    for (t, s) in &cases {
-        input.extend((t.len() as u16).to_le_bytes());
-        input.extend(t);
-        output += s;
+fn cases() -> Vec<Case> {
+    let masks = accepted();
+    let mut cases: Vec<Case> = masks.iter().map(|(name, m)| Case { name, text: text(m), printed: listing(m) }).collect();
+    // the last line feed may lack
+    let unended = [
+        ("m7", "m7_unended"),
+        ("one_dark", "one_dark_unended"),
+        ("u_upside_down", "u_unended"),
+        ("comb_down", "comb_unended"),
+        ("full", "full_unended"),
+    ];
+    for (of, name) in unended {
+        let (_, m) = masks.iter().find(|(n, _)| *n == of).unwrap();
+        let mut t = text(m);
+        t.pop();
+        cases.push(Case { name, text: t, printed: listing(m) });
     }
-    assert!(input.len() <= 65536);
-    vectors::write("patch_examples", &input, &output);
-    println!("{} inputs, {} bytes; {} bytes of output", cases.len(), input.len(), output.len());
+    for (name, text) in refused() {
+        cases.push(Case { name, text, printed: REFUSED.to_string() });
+    }
+    cases
+}
+
+fn main() {
+    // the program itself: the largest mask without its last line feed, dark on a diagonal
+    let diagonal = mask(64, 64, |x, y| x == y);
+    let mut t = text(&diagonal);
+    t.pop();
+    vectors::write("patches", &t, &listing(&diagonal));
+
+    let cases = cases();
+    let there = vectors::place("test_patches");
+    let _ = fs::remove_dir_all(format!("{there}/data"));
+    fs::create_dir(format!("{there}/data")).unwrap();
+    let (mut args, mut printed) = (String::new(), String::new());
+    for c in &cases {
+        fs::write(format!("{there}/data/{}", c.name), &c.text).unwrap();
+        args += &format!("{}\n", c.name);
+        printed += &c.printed;
+    }
+    fs::write(format!("{there}/args"), args).unwrap();
+    fs::write(format!("{there}/stdout"), &printed).unwrap();
+    println!("{} inputs; {} bytes of output", cases.len(), printed.len());
 }

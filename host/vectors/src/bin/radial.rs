@@ -20,6 +20,7 @@ impl Asked {
         self.words.ask(&[&[kind], arguments].concat(), 7);
     }
 
+    #[allow(clippy::wrong_self_convention, clippy::new_ret_no_self)] // called as what is asked
     fn new(&mut self, w: usize, h: usize, k: f64) {
         self.ask(0, &[w as u64, h as u64, k.to_bits()]);
         if (1..=4096).contains(&w) && (1..=4096).contains(&h) {
@@ -92,6 +93,10 @@ fn main() {
         let l = Radial::new(2, 2, -0.15);
         v.both(l, [1.0 + 2f64.sqrt() * 1e-12 * (0.9 + 0.01 * n as f64), 1.0]);
         v.both(l, [0.01 * n as f64 - 0.1, 0.01 * n as f64 - 0.1]);
+    }
+    // six steps that go from 1 to 1.5 and back, and where their answer is observed
+    for p in [[0.0, 0.0], [-0.25, -0.25]] {
+        v.both(Radial::new(2, 2, -0.2), p);
     }
     // a slope of 0: 1 + 3 k u² at u = 1 and k = -1/3, in the first step and later
     for (k, x) in [(-1.0 / 3.0, 1.0), (-1.0 / 3.0, 1.0000000001), (-1.0 / 12.0, 2.0), (-3.0, 1.0 / 3.0), (-4.0 / 27.0, 1.0)] {

@@ -48,25 +48,25 @@ span-requires c κs = search needs
 span-requires-2 : tie.Need-span-requires-2
 span-requires-2 c κs = search needs
 
-px-requires : tie.Need-px-requires
-px-requires c κs =
+read-requires : tie.Need-read-requires
+read-requires c κs =
     let k = c in
-    (across-first (k .before), down-first k, omega arith, omega arith, k .before .before .before .pre .bytes-held)
+    (k .before .before .before .pre, across-first (k .before), down-first k)
 
-px-requires-2 : tie.Need-px-requires-2
-px-requires-2 c κs =
+read-requires-2 : tie.Need-read-requires-2
+read-requires-2 c κs =
     let k = c .before in
-    (across-next (k .before), down-first k, omega arith, omega arith, k .before .before .before .pre .bytes-held)
+    (k .before .before .before .pre, across-next (k .before), down-first k)
 
-px-requires-3 : tie.Need-px-requires-3
-px-requires-3 c κs =
+read-requires-3 : tie.Need-read-requires-3
+read-requires-3 c κs =
     let k = c .before .before in
-    (across-first (k .before), down-next k, omega arith, omega arith, k .before .before .before .pre .bytes-held)
+    (k .before .before .before .pre, across-first (k .before), down-next k)
 
-px-requires-4 : tie.Need-px-requires-4
-px-requires-4 c κs =
+read-requires-4 : tie.Need-read-requires-4
+read-requires-4 c κs =
     let k = c .before .before .before in
-    (across-next (k .before), down-next k, omega arith, omega arith, k .before .before .before .pre .bytes-held)
+    (k .before .before .before .pre, across-next (k .before), down-next k)
 
 blend-requires : tie.Need-blend-requires
 blend-requires c κs = search needs
@@ -83,10 +83,10 @@ returns c =
     let s = k .before .span in
     let t = k .span2 in
     colour-is _ (s .result) (t .result) _ _ _ _ _ _ _
-    (c .before .before .before .before .before .before .px .ensures)
-    (c .before .before .before .before .before .px2 .ensures)
-    (c .before .before .before .before .px3 .ensures)
-    (c .before .before .before .px4 .ensures)
+    (c .before .before .before .before .before .before .read .ensures)
+    (c .before .before .before .before .before .read2 .ensures)
+    (c .before .before .before .before .read3 .ensures)
+    (c .before .before .before .read4 .ensures)
     (c .before .before .blend .ensures)
     (c .before .blend2 .ensures)
     (c .blend3 .ensures)
@@ -98,10 +98,10 @@ reading-spec =
     (tie.spec
     span-requires
     span-requires-2
-    px-requires
-    px-requires-2
-    px-requires-3
-    px-requires-4
+    read-requires
+    read-requires-2
+    read-requires-3
+    read-requires-4
     blend-requires
     blend-requires-2
     blend-requires-3

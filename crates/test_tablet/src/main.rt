@@ -1,0 +1,166 @@
+// Calls every exported function by position, with no two numbers of a call alike, and prints what it
+// answers and writes. Contracts name parameters, not their places: a library in which two have changed
+// places still keeps its promises, and is caught here. The expected output is the original's:
+// host/vectors/src/bin/tablet.rs says what stdin and stdout hold, and how to make them again.
+mod looks; // looks.rt: the functions that look at the whole capture
+mod print; // print.rt: words on lines
+
+use print::bytes;
+use print::floats;
+use print::word;
+use print::words;
+
+fn main() {
+    let mut capture = [0u8; 43008];
+    io::read_full(0, &mut capture);
+    looks::rectify(&capture);
+    looks::fit_geometry(&capture);
+    let points = looks::detect_fiducials(&capture);
+    looks::fiducial_candidates(&capture);
+    let fit = fit_for(&points);
+    grid_score(&capture, &fit);
+    warp_with(&capture, &fit);
+    bilinear(&capture);
+    lengths();
+    grid();
+    marker_numbers();
+    let centers = marker_centers();
+    stamp_fiducials();
+    let matrix = from_points(&centers, &points);
+    inverse(&matrix);
+    mat3_mul(&matrix, &fit);
+    apply(&matrix);
+    let lens = radial();
+    distort(&lens);
+    undistort(&lens);
+    rms_error(&centers, &points);
+}
+
+// ---- fits and readings
+
+fn fit_for(points: &[f64; 8]) -> [f64; 13] {
+    let mut fit = [0.0; 13];
+    word(tablet::tablet_fit_for(128, 112, 208, 192, 8, 48, points, 0.015, &mut fit) as u64);
+    floats(&fit, 0, 13);
+    fit
+}
+
+fn grid_score(capture: &[u8; 43008], fit: &[f64; 13]) {
+    let mut means = [0.0; 29];
+    let mut grade = [9u64; 2];
+    let mut score = [0.0; 1];
+    let r = tablet::tablet_grid_score(
+        capture,
+        128,
+        112,
+        208,
+        192,
+        8,
+        48,
+        fit,
+        &mut means,
+        &mut grade,
+        &mut score,
+    );
+    word(r as u64);
+    words(&grade, 0, 2);
+    floats(&score, 0, 1);
+}
+
+fn warp_with(capture: &[u8; 43008], fit: &[f64; 13]) {
+    let mut canonical = [0u8; 119808];
+    let r = tablet::tablet_warp_with(capture, 128, 112, 208, 192, 8, 48, fit, &mut canonical);
+    word(r as u64);
+    bytes(&canonical, 936);
+}
+
+fn bilinear(capture: &[u8; 43008]) {
+    let mut colour = [0u8; 8];
+    word(tablet::tablet_bilinear(capture, 128, 112, 40.25, 71.5, &mut colour) as u64);
+    bytes(&colour, 1);
+}
+
+// ---- frames
+
+fn lengths() {
+    let mut numbers = [0u64; 11];
+    word(tablet::tablet_lengths(128, 112, 208, 192, 8, 48, &mut numbers) as u64);
+    words(&numbers, 0, 11);
+}
+
+fn grid() {
+    let mut numbers = [0u64; 2];
+    word(tablet::tablet_grid(208, 192, 8, 48, &mut numbers) as u64);
+    words(&numbers, 0, 2);
+}
+
+fn marker_numbers() {
+    let mut numbers = [0u64; 3];
+    word(tablet::tablet_marker_numbers(10, &mut numbers) as u64);
+    words(&numbers, 0, 3);
+}
+
+fn marker_centers() -> [f64; 8] {
+    let mut points = [0.0; 8];
+    word(tablet::tablet_marker_centers(208, 192, 8, 48, &mut points) as u64);
+    floats(&points, 0, 8);
+    points
+}
+
+fn stamp_fiducials() {
+    let mut image = [7u8; 7920];
+    word(tablet::tablet_stamp_fiducials(&mut image, 60, 44, 208, 192, 8, 48) as u64);
+    bytes(&image, 62);
+}
+
+// ---- matrices and lens
+
+fn from_points(source: &[f64; 8], target: &[f64; 8]) -> [f64; 9] {
+    let mut matrix = [0.0; 9];
+    word(tablet::tablet_from_points(source, target, &mut matrix) as u64);
+    floats(&matrix, 0, 9);
+    matrix
+}
+
+fn inverse(matrix: &[f64; 9]) {
+    let mut result = [0.0; 9];
+    word(tablet::tablet_inverse(matrix, &mut result) as u64);
+    floats(&result, 0, 9);
+}
+
+fn mat3_mul(a: &[f64; 9], b: &[f64; 13]) {
+    let mut result = [0.0; 9];
+    word(tablet::tablet_mat3_mul(a, b, &mut result) as u64);
+    floats(&result, 0, 9);
+}
+
+fn apply(matrix: &[f64; 9]) {
+    let mut point = [0.0; 2];
+    word(tablet::tablet_apply(matrix, 31.0, 77.5, &mut point) as u64);
+    floats(&point, 0, 2);
+}
+
+fn radial() -> [f64; 4] {
+    let mut lens = [0.0; 4];
+    word(tablet::tablet_radial(128, 112, 0.125, &mut lens) as u64);
+    floats(&lens, 0, 4);
+    lens
+}
+
+fn distort(lens: &[f64; 4]) {
+    let mut point = [0.0; 2];
+    word(tablet::tablet_distort(lens, 31.0, 77.5, &mut point) as u64);
+    floats(&point, 0, 2);
+}
+
+fn undistort(lens: &[f64; 4]) {
+    let mut point = [0.0; 2];
+    word(tablet::tablet_undistort(lens, 31.0, 77.5, &mut point) as u64);
+    floats(&point, 0, 2);
+}
+
+fn rms_error(a: &[f64; 8], b: &[f64; 8]) {
+    let mut result = [0.0; 1];
+    word(tablet::tablet_rms_error(a, b, &mut result) as u64);
+    floats(&result, 0, 1);
+}

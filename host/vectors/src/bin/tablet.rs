@@ -1,0 +1,222 @@
+// Vectors for the program crate test_tablet, which calls every exported function by position: the original's answers to
+// the same calls, in the program's order. In host/vectors: `cargo run --release --offline --bin tablet` writes stdin and
+// stdout again.
+//
+// stdin is the capture's bytes. stdout has the answers' words, one a line, in hexadecimal: each call's refusal number, and
+// then what it wrote. Of the areas some entries are printed, of bytes every sixteenth word of eight. The number of waiting
+// pixels is not the original's, and left out. The smallest lengths are document 01's.
+use lpcorepub::frame::FrameSpec;
+use lpcorepub::geometry::{
+    adaptive_black_mask, bilinear, detect_fiducials, fiducial_candidates, fit_for, fit_geometry, grid_score, label_blobs, luma_plane,
+    margin_for, marker_centers, marker_layout, marker_size, mat3_mul, quiet_zone, rectify, rms_error, stamp_fiducials, warp_with, Blob,
+    Candidate, GeometryFit, Homography, Radial,
+};
+use lpcorepub::image::RgbImage;
+use vectors::pictures::{card, frame, integral_of, outside, photograph, put_fit, sampled};
+use vectors::stages::{searched, Points};
+use vectors::{Random, Vectors};
+
+const W: usize = 128;
+const H: usize = 112;
+
+fn words(v: &mut Vectors, numbers: &[usize]) {
+    for n in numbers {
+        v.word(*n as u64);
+    }
+}
+
+fn floats(v: &mut Vectors, numbers: &[f64]) {
+    for x in numbers {
+        v.float(*x);
+    }
+}
+
+// Every sixteenth word of eight bytes, the lowest byte first.
+fn bytes(v: &mut Vectors, b: &[u8]) {
+    for chunk in b.chunks_exact(8).step_by(16) {
+        v.word(u64::from_le_bytes(chunk.try_into().unwrap()));
+    }
+}
+
+fn point(v: &mut Vectors, p: [f64; 2]) {
+    v.word(0);
+    floats(v, &p);
+}
+
+fn matrix(v: &mut Vectors, h: &Homography) {
+    v.word(0);
+    floats(v, h.m.as_flattened());
+}
+
+// ---- planes and lists of the capture
+
+struct Look {
+    luma: Vec<f32>,
+    integral: Vec<f64>,
+    mask: Vec<u8>,
+    patches: Vec<Blob>,
+    candidates: Vec<Candidate>,
+    places: Vec<usize>,
+}
+
+fn place(patches: &[Blob], center: [f64; 2]) -> usize {
+    let at = |b: &Blob| [b.sx / b.area as f64 + 0.5, b.sy / b.area as f64 + 0.5];
+    patches.iter().position(|b| at(b) == center).unwrap()
+}
+
+fn look(img: &RgbImage, f: &FrameSpec) -> Look {
+    let luma = luma_plane(img);
+    let (marker, _) = marker_layout(f).unwrap();
+    let radius = (marker as usize / 3).clamp(8, img.w.min(img.h) / 4);
+    let dark = adaptive_black_mask(&luma, img.w, img.h, radius, 8.0);
+    let patches = label_blobs(&dark, img.w, img.h);
+    let candidates = fiducial_candidates(img, f);
+    let places = candidates.iter().map(|c| place(&patches, c.center)).collect();
+    let integral = integral_of(&luma, img.w, img.h);
+    Look { luma, integral, mask: dark.iter().map(|d| *d as u8).collect(), patches, candidates, places }
+}
+
+fn patch(v: &mut Vectors, b: &Blob) {
+    words(v, &[b.area as usize, b.sx as usize, b.sy as usize, b.x0, b.y0, b.x1, b.y1]);
+}
+
+// What the areas hold: entries 1,000 and 1,001 of luma, the last two of the integral, mask and marks, two patches, the
+// first four candidates with their places.
+fn looked(v: &mut Vectors, l: &Look) {
+    for x in &l.luma[1000..1002] {
+        v.word(x.to_bits() as u64);
+    }
+    floats(v, &l.integral[(W + 1) * (H + 1) - 2..]);
+    bytes(v, &l.mask);
+    bytes(v, &l.mask);
+    for b in &l.patches[..2] {
+        patch(v, b);
+    }
+    for c in &l.candidates[..4] {
+        floats(v, &[c.center[0], c.center[1], c.score, c.size]);
+    }
+    words(v, &l.places[..4]);
+}
+
+fn counted(v: &mut Vectors, l: &Look) {
+    words(v, &[l.patches.len(), l.candidates.len()]);
+}
+
+fn corners(v: &mut Vectors, l: &Look, points: &Points) {
+    for p in points {
+        v.word(place(&l.patches, *p) as u64);
+    }
+}
+
+// Grade and cell; the score is put apart.
+fn graded(v: &mut Vectors, img: &RgbImage, f: &FrameSpec, fit: &GeometryFit) {
+    match outside(img, f, fit) {
+        Some(cell) => words(v, &[1, cell]),
+        None => words(v, &[if sampled(f) < 16 { 2 } else { 0 }, 0]),
+    }
+}
+
+// ---- the calls
+
+// Number, counts, fit with its score: the same for rectify and fit_geometry.
+fn fitted(v: &mut Vectors, img: &RgbImage, f: &FrameSpec, l: &Look) {
+    let points = detect_fiducials(img, f).unwrap();
+    let fit = fit_geometry(img, f).unwrap();
+    let s = searched(img, f, &points);
+    v.word(0);
+    counted(v, l);
+    corners(v, l, &points);
+    words(v, &[s.tried as usize, s.found.iter().sum::<u64>() as usize]);
+    graded(v, img, f, &fit);
+    put_fit(v, &fit);
+    v.float(grid_score(img, f, &fit));
+    looked(v, l);
+}
+
+fn pictures(v: &mut Vectors, img: &RgbImage, f: &FrameSpec) {
+    let l = look(img, f);
+    let points = detect_fiducials(img, f).unwrap();
+    fitted(v, img, f, &l);
+    bytes(v, &rectify(img, f).unwrap().data);
+    fitted(v, img, f, &l);
+
+    v.word(0);
+    counted(v, &l);
+    corners(v, &l, &points);
+    floats(v, points.as_flattened());
+    looked(v, &l);
+
+    v.word(0);
+    counted(v, &l);
+    looked(v, &l);
+
+    // the patches of that mask
+    words(v, &[0, l.patches.len()]);
+    bytes(v, &l.mask);
+    for b in &l.patches[..2] {
+        patch(v, b);
+    }
+}
+
+fn fits(v: &mut Vectors, img: &RgbImage, f: &FrameSpec, points: &Points) -> GeometryFit {
+    let fit = fit_for(img, f, points, 0.015).unwrap();
+    v.word(0);
+    put_fit(v, &fit);
+    v.word(0);
+    graded(v, img, f, &fit);
+    v.float(grid_score(img, f, &fit));
+    v.word(0);
+    bytes(v, &warp_with(img, f, &fit).data);
+    v.word(0);
+    let [r, g, b] = bilinear(img, 40.25, 71.5).map(u64::from);
+    v.word(r + (g << 8) + (b << 16));
+    fit
+}
+
+fn frames(v: &mut Vectors, f: &FrameSpec) {
+    let n = W * H;
+    v.word(0);
+    let (patches, candidates) = (7 * n.div_ceil(2), 4 * (n / 32));
+    words(v, &[3 * n, n, (W + 1) * (H + 1), n, n, n, patches, candidates, n / 32, sampled(f), 3 * f.width * f.height]);
+    v.word(0);
+    words(v, &[f.cols(), f.rows()]);
+    v.word(0);
+    words(v, &[marker_size(10), quiet_zone(10), margin_for(10)]);
+    v.word(0);
+    floats(v, marker_centers(f).unwrap().as_flattened());
+    let mut img = RgbImage::new(60, 44);
+    img.data.fill(7);
+    stamp_fiducials(&mut img, f);
+    v.word(0);
+    bytes(v, &img.data);
+}
+
+fn matrices(v: &mut Vectors, f: &FrameSpec, points: &Points, fit: &GeometryFit) {
+    let centers = marker_centers(f).unwrap();
+    let h = Homography::from_points(&centers, points).unwrap();
+    matrix(v, &h);
+    matrix(v, &h.inverse().unwrap());
+    matrix(v, &Homography::from_mat(mat3_mul(&h.m, &fit.h.m)));
+    point(v, h.apply([31.0, 77.5]));
+    let lens = Radial::new(W, H, 0.125);
+    v.word(0);
+    floats(v, &[lens.k, lens.cx, lens.cy, lens.norm]);
+    point(v, lens.distort([31.0, 77.5]));
+    point(v, lens.undistort([31.0, 77.5]));
+    v.word(0);
+    v.float(rms_error(&centers, points));
+}
+
+fn main() {
+    let mut rng = Random(23);
+    let f = frame(208, 192, 8, 48);
+    let img = photograph(&card(&f, &mut rng), W, H, [[5.0, 4.0], [124.0, 7.0], [121.0, 109.0], [3.0, 105.0]], 0.03);
+    let points = detect_fiducials(&img, &f).unwrap();
+    let mut v = Vectors::default();
+    v.input.extend(&img.data);
+    pictures(&mut v, &img, &f);
+    let fit = fits(&mut v, &img, &f, &points);
+    frames(&mut v, &f);
+    matrices(&mut v, &f, &points, &fit);
+    v.write("test_tablet");
+}
