@@ -7,8 +7,9 @@
  *    4  the canonical image is not 3 * width * height bytes (the host)
  *    5  the frame has no room for its markers (the writer of the frame)
  *    6  a capture side below 32 (the photographer)
- *    7  fewer than four candidates (the photographer)
- *    8  one candidate fills two corners (the photographer)
+ *    7  fewer than four candidates: a ring cut, covered or blurred, or the card turned by 10 degrees or more
+ *       (the photographer)
+ *    8  one candidate fills two corners: a ring missing, or the card turned by 10 degrees or more (the photographer)
  *    9  the corners do not turn one way, or the area is too small (the photographer)
  *   10  no homography (whoever hands in the points)
  *   11  tablet_inverse only: absolute determinant below 1e-12 (whoever hands in the matrix)
@@ -18,8 +19,9 @@
  *
  * A capture is w * h pixels of three bytes, red, green, blue, by rows: exactly 3 * w * h bytes. So is the canonical image:
  * exactly 3 * width * height. The frame is width, height, cell and margin, in canonical pixels. Positions are in pixels from
- * the upper left corner of the picture; the centre of its first pixel is (0.5, 0.5). Points are x, y of TL, TR, BR, BL:
- * eight numbers. A matrix is nine numbers by rows. A lens is k, cx, cy, norm. A fit is a matrix and then a lens: 13 numbers.
+ * the upper left corner of the picture; the centre of its first pixel is (0.5, 0.5). Points are x, y of TL, TR, BR, BL. A
+ * matrix is by rows. A lens is k, cx, cy, norm. A fit is a matrix and then a lens. Each function names the number of entries of
+ * its slices by the names below.
  *
  * Work areas may be longer than needed; what lies past the lengths that tablet_lengths gives is never written. Their contents
  * before a call change no answer. After acceptance, and after a refusal from 7 up, they hold
@@ -32,6 +34,12 @@
  *    blob_index  for each candidate its patch's place in patches, from 0
  * and waiting and means hold nothing of use: they are free. Records past the last are as they were. After a refusal by 1 to 6
  * no memory is changed, and after any refusal the canonical image is as it was.
+ *
+ * Acceptance says that the answer is the one that the rules give for this capture. It does not say that the four rings are the
+ * card's, nor which way up the card lies: README.md, "When not to trust a card". host/flatten/src/phase.rs has a sign of both
+ * that a caller can work out from the canonical image, to go with the score.
+ *
+ * struct tablet_areas, at the end, holds all slices of a call, so that a caller writes one argument for them.
  */
 #ifndef TABLET_H
 #define TABLET_H
@@ -42,6 +50,27 @@
 #ifdef __cplusplus
 extern "C" {
 #endif
+
+/* Numbers of entries: of slices handed in at least so many, of results exactly what is filled. */
+enum {
+    TABLET_LENGTHS_LEN = 11, /* of tablet_lengths */
+    TABLET_COUNTS_LEN = 11,
+    TABLET_DETECTED_LEN = 7, /* counts of tablet_detect_fiducials */
+    TABLET_LISTED_LEN = 3, /* counts of tablet_fiducial_candidates */
+    TABLET_LABELLED_LEN = 2, /* counts of tablet_label_blobs */
+    TABLET_SCORED_FIT_LEN = 14, /* a fit and its score */
+    TABLET_FIT_LEN = 13,
+    TABLET_MATRIX_LEN = 9,
+    TABLET_LENS_LEN = 4,
+    TABLET_POINTS_LEN = 8,
+    TABLET_POINT_LEN = 2,
+    TABLET_COLOUR_LEN = 3,
+    TABLET_GRADE_LEN = 2, /* of tablet_grid_score */
+    TABLET_MARKER_NUMBERS_LEN = 3,
+    TABLET_GRID_LEN = 2,
+    TABLET_PATCH_LEN = 7, /* one record of patches */
+    TABLET_CANDIDATE_LEN = 4 /* one record of candidates */
+};
 
 /* Entries of the counts. tablet_fiducial_candidates fills the first three, tablet_detect_fiducials the first seven. They are
  * filled on acceptance and on a refusal from 7 up; then what there is not to tell is 0, and the grade TABLET_NO_GRADE. */
@@ -56,24 +85,14 @@ enum {
     TABLET_TRIALS = 7,
     TABLET_HOMOGRAPHIES = 8,
     TABLET_GRADE = 9, /* of the kept trial */
-    TABLET_OUTSIDE_CELL = 10, /* row * cols + column where the grade is TABLET_OUTSIDE, else 0 */
-    TABLET_COUNTS = 11
+    TABLET_OUTSIDE_CELL = 10 /* row * cols + column where the grade is TABLET_OUTSIDE, else 0 */
 };
 
 /* Grades. */
 enum { TABLET_SCORED = 0, TABLET_OUTSIDE = 1, TABLET_TOO_FEW = 2, TABLET_NO_GRADE = 3 };
 
 /* Entries of a found fit, filled on acceptance only: the matrix by rows, the lens, the score (-infinity where unscored). */
-enum {
-    TABLET_MATRIX = 0,
-    TABLET_K = 9,
-    TABLET_CX = 10,
-    TABLET_CY = 11,
-    TABLET_NORM = 12,
-    TABLET_FIT = 13, /* length of a fit handed in, or of tablet_fit_for's */
-    TABLET_SCORE = 13,
-    TABLET_SCORED_FIT = 14 /* length of a found fit */
-};
+enum { TABLET_MATRIX = 0, TABLET_K = 9, TABLET_CX = 10, TABLET_CY = 11, TABLET_NORM = 12, TABLET_SCORE = 13 };
 
 /* Entries of tablet_lengths: the smallest number of entries of each slice (exact for capture and canonical). */
 enum {
@@ -87,15 +106,14 @@ enum {
     TABLET_LENGTH_CANDIDATES = 7,
     TABLET_LENGTH_BLOB_INDEX = 8,
     TABLET_LENGTH_MEANS = 9,
-    TABLET_LENGTH_CANONICAL = 10,
-    TABLET_LENGTHS = 11
+    TABLET_LENGTH_CANONICAL = 10
 };
 
-/* Every smallest length for a capture of w by h and a frame. 1, 2, 3. lengths: 11. */
+/* Every smallest length for a capture of w by h and a frame. 1, 2, 3. lengths: TABLET_LENGTHS_LEN. */
 uint32_t tablet_lengths(size_t w, size_t h, size_t width, size_t height, size_t cell, size_t margin,
                         uint64_t *lengths, size_t lengths_len);
 
-/* The flat card of a capture. 1 to 10. counts: 11; fit: 14. */
+/* The flat card of a capture. 1 to 10. counts: TABLET_COUNTS_LEN; fit: TABLET_SCORED_FIT_LEN. */
 uint32_t tablet_rectify(const uint8_t *capture, size_t capture_len, size_t w, size_t h,
                         size_t width, size_t height, size_t cell, size_t margin,
                         float *luma, size_t luma_len, double *integral, size_t integral_len,
@@ -105,7 +123,7 @@ uint32_t tablet_rectify(const uint8_t *capture, size_t capture_len, size_t w, si
                         double *means, size_t means_len, uint8_t *canonical, size_t canonical_len,
                         uint64_t *counts, size_t counts_len, double *fit, size_t fit_len);
 
-/* The fit alone. 1, 2, 3, 5 to 10. counts: 11; fit: 14. */
+/* The fit alone. 1, 2, 3, 5 to 10. counts: TABLET_COUNTS_LEN; fit: TABLET_SCORED_FIT_LEN. */
 uint32_t tablet_fit_geometry(const uint8_t *capture, size_t capture_len, size_t w, size_t h,
                              size_t width, size_t height, size_t cell, size_t margin,
                              float *luma, size_t luma_len, double *integral, size_t integral_len,
@@ -115,7 +133,7 @@ uint32_t tablet_fit_geometry(const uint8_t *capture, size_t capture_len, size_t 
                              double *means, size_t means_len,
                              uint64_t *counts, size_t counts_len, double *fit, size_t fit_len);
 
-/* The four corners. 1, 2, 3, 5 to 9. counts: 7; points: 8, filled on acceptance only. */
+/* The four corners. 1, 2, 3, 5 to 9. counts: TABLET_DETECTED_LEN; points: TABLET_POINTS_LEN, filled on acceptance only. */
 uint32_t tablet_detect_fiducials(const uint8_t *capture, size_t capture_len, size_t w, size_t h,
                                  size_t width, size_t height, size_t cell, size_t margin,
                                  float *luma, size_t luma_len, double *integral, size_t integral_len,
@@ -124,7 +142,7 @@ uint32_t tablet_detect_fiducials(const uint8_t *capture, size_t capture_len, siz
                                  double *candidates, size_t candidates_len, uint32_t *blob_index, size_t blob_index_len,
                                  uint64_t *counts, size_t counts_len, double *points, size_t points_len);
 
-/* Every ring-shaped patch. 1, 2, 3, 5, 6. counts: 3. */
+/* Every ring-shaped patch. 1, 2, 3, 5, 6. counts: TABLET_LISTED_LEN. */
 uint32_t tablet_fiducial_candidates(const uint8_t *capture, size_t capture_len, size_t w, size_t h,
                                     size_t width, size_t height, size_t cell, size_t margin,
                                     float *luma, size_t luma_len, double *integral, size_t integral_len,
@@ -134,23 +152,24 @@ uint32_t tablet_fiducial_candidates(const uint8_t *capture, size_t capture_len, 
                                     uint64_t *counts, size_t counts_len);
 
 /* The patches of a mask, exactly w * h bytes, any nonzero byte dark; seen becomes 1 where dark, else 0. 2, 3.
- * counts: 2, number of patches and most waiting. */
+ * counts: TABLET_LABELLED_LEN, number of patches and most waiting. */
 uint32_t tablet_label_blobs(const uint8_t *mask, size_t mask_len, size_t w, size_t h,
                             uint8_t *seen, size_t seen_len, uint32_t *waiting, size_t waiting_len,
                             uint64_t *patches, size_t patches_len, uint64_t *counts, size_t counts_len);
 
-/* The fit of four observed points under a given lens term. 1, 2 (sides), 3, 5, 10. points: 8; fit: 13. */
+/* The fit of four observed points under a given lens term. 1, 2 (sides), 3, 5, 10.
+ * points: TABLET_POINTS_LEN; fit: TABLET_FIT_LEN. */
 uint32_t tablet_fit_for(size_t w, size_t h, size_t width, size_t height, size_t cell, size_t margin,
                         const double *points, size_t points_len, double k, double *fit, size_t fit_len);
 
-/* How well a fit explains the cells. 1, 2, 3. fit: 13; means: a work area; grade: 2, the grade and the outside cell;
- * score: 1, -infinity where unscored. The fit is not tested. */
+/* How well a fit explains the cells. 1, 2, 3. fit: TABLET_FIT_LEN; means: a work area; grade: TABLET_GRADE_LEN, the grade and the
+ * outside cell; score: one, -infinity where unscored. The fit is not tested. */
 uint32_t tablet_grid_score(const uint8_t *capture, size_t capture_len, size_t w, size_t h,
                            size_t width, size_t height, size_t cell, size_t margin,
                            const double *fit, size_t fit_len, double *means, size_t means_len,
                            uint64_t *grade, size_t grade_len, double *score, size_t score_len);
 
-/* The card under a known fit. 1, 2, 3 (fit), 4. fit: 13. */
+/* The card under a known fit. 1, 2, 3 (fit), 4. fit: TABLET_FIT_LEN. */
 uint32_t tablet_warp_with(const uint8_t *capture, size_t capture_len, size_t w, size_t h,
                           size_t width, size_t height, size_t cell, size_t margin,
                           const double *fit, size_t fit_len, uint8_t *canonical, size_t canonical_len);
@@ -159,41 +178,143 @@ uint32_t tablet_warp_with(const uint8_t *capture, size_t capture_len, size_t w, 
 uint32_t tablet_stamp_fiducials(uint8_t *image, size_t image_len, size_t w, size_t h,
                                 size_t width, size_t height, size_t cell, size_t margin);
 
-/* Canonical centres of the markers. 1, 3, 5. points: 8. */
+/* Canonical centres of the markers. 1, 3, 5. points: TABLET_POINTS_LEN. */
 uint32_t tablet_marker_centers(size_t width, size_t height, size_t cell, size_t margin, double *points, size_t points_len);
 
-/* Marker side, quiet zone and the margin that holds them. 1 (cell), 3. numbers: 3. */
+/* Marker side, quiet zone and the margin that holds them. 1 (cell), 3. numbers: TABLET_MARKER_NUMBERS_LEN. */
 uint32_t tablet_marker_numbers(size_t cell, uint64_t *numbers, size_t numbers_len);
 
-/* Columns and rows of cells. 1, 3. numbers: 2. */
+/* Columns and rows of cells. 1, 3. numbers: TABLET_GRID_LEN. */
 uint32_t tablet_grid(size_t width, size_t height, size_t cell, size_t margin, uint64_t *numbers, size_t numbers_len);
 
-/* The homography that takes source to target. 3, 10. source, target: 8; matrix: 9. */
+/* The homography that takes source to target. 3, 10. source, target: TABLET_POINTS_LEN; matrix: TABLET_MATRIX_LEN. */
 uint32_t tablet_from_points(const double *source, size_t source_len, const double *target, size_t target_len,
                             double *matrix, size_t matrix_len);
 
-/* 3, 11. matrix, result: 9. */
+/* The inverse of a matrix. 3, 11. matrix, result: TABLET_MATRIX_LEN. */
 uint32_t tablet_inverse(const double *matrix, size_t matrix_len, double *result, size_t result_len);
 
-/* Where a matrix takes a point. 3. matrix: 9; point: 2. */
+/* Where a matrix takes a point. 3. matrix: TABLET_MATRIX_LEN; point: TABLET_POINT_LEN. */
 uint32_t tablet_apply(const double *matrix, size_t matrix_len, double x, double y, double *point, size_t point_len);
 
-/* a times b. 3. a, b, result: 9. */
+/* a times b. 3. a, b, result: TABLET_MATRIX_LEN. */
 uint32_t tablet_mat3_mul(const double *a, size_t a_len, const double *b, size_t b_len, double *result, size_t result_len);
 
-/* The lens of a capture of w by h with the term k. 2, 3. lens: 4. */
+/* The lens of a capture of w by h with the term k. 2, 3. lens: TABLET_LENS_LEN. */
 uint32_t tablet_radial(size_t w, size_t h, double k, double *lens, size_t lens_len);
 
-/* Ideal to observed point, and back. 3. lens: 4; point: 2. */
+/* Ideal to observed point, and back. 3. lens: TABLET_LENS_LEN; point: TABLET_POINT_LEN. */
 uint32_t tablet_distort(const double *lens, size_t lens_len, double x, double y, double *point, size_t point_len);
 uint32_t tablet_undistort(const double *lens, size_t lens_len, double x, double y, double *point, size_t point_len);
 
-/* The colour of a capture at a position. 2, 3. colour: 3. */
+/* The colour of a capture at a position. 2, 3. colour: TABLET_COLOUR_LEN. */
 uint32_t tablet_bilinear(const uint8_t *capture, size_t capture_len, size_t w, size_t h, double x, double y,
                          uint8_t *colour, size_t colour_len);
 
-/* Root mean square distance of four points from four others. 3. a, b: 8; result: 1. */
+/* Root mean square distance of four points from four others. 3. a, b: TABLET_POINTS_LEN; result: one. */
 uint32_t tablet_rms_error(const double *a, size_t a_len, const double *b, size_t b_len, double *result, size_t result_len);
+
+/* All slices of a look, of a fit and of rectify, for captures of one size and one frame. tablet_areas_lend fills it but for the
+ * capture; the functions below then take it in the place of 26 arguments. */
+struct tablet_areas {
+    const uint8_t *capture;
+    size_t capture_len;
+    float *luma;
+    size_t luma_len;
+    double *integral;
+    size_t integral_len;
+    uint8_t *mask;
+    size_t mask_len;
+    uint8_t *seen;
+    size_t seen_len;
+    uint32_t *waiting;
+    size_t waiting_len;
+    uint64_t *patches;
+    size_t patches_len;
+    double *candidates;
+    size_t candidates_len;
+    uint32_t *blob_index;
+    size_t blob_index_len;
+    double *means;
+    size_t means_len;
+    uint8_t *canonical;
+    size_t canonical_len;
+    uint64_t counts[TABLET_COUNTS_LEN];
+    double fit[TABLET_SCORED_FIT_LEN];
+};
+
+/* How many bytes all lent areas take, by the lengths that tablet_lengths gives: 47 a pixel and the card. */
+static inline size_t tablet_areas_size(const uint64_t *lengths)
+{
+    return (size_t)(8 * (lengths[TABLET_LENGTH_INTEGRAL] + lengths[TABLET_LENGTH_PATCHES]) +
+                    8 * (lengths[TABLET_LENGTH_CANDIDATES] + lengths[TABLET_LENGTH_MEANS]) +
+                    4 * (lengths[TABLET_LENGTH_LUMA] + lengths[TABLET_LENGTH_WAITING] + lengths[TABLET_LENGTH_BLOB_INDEX]) +
+                    lengths[TABLET_LENGTH_MASK] + lengths[TABLET_LENGTH_SEEN] + lengths[TABLET_LENGTH_CANONICAL]);
+}
+
+/* Lends parts of one block of tablet_areas_size bytes, aligned as malloc's are; the widest entries come first, so that each part
+ * is aligned. The block must outlive the areas. Gives 0, and lends nothing, where there is no block (NULL), else 1. */
+static inline int tablet_areas_lend(struct tablet_areas *a, const uint64_t *lengths, void *block)
+{
+    if (block == NULL) return 0;
+    a->integral_len = (size_t)lengths[TABLET_LENGTH_INTEGRAL];
+    a->patches_len = (size_t)lengths[TABLET_LENGTH_PATCHES];
+    a->candidates_len = (size_t)lengths[TABLET_LENGTH_CANDIDATES];
+    a->means_len = (size_t)lengths[TABLET_LENGTH_MEANS];
+    a->luma_len = (size_t)lengths[TABLET_LENGTH_LUMA];
+    a->waiting_len = (size_t)lengths[TABLET_LENGTH_WAITING];
+    a->blob_index_len = (size_t)lengths[TABLET_LENGTH_BLOB_INDEX];
+    a->mask_len = (size_t)lengths[TABLET_LENGTH_MASK];
+    a->seen_len = (size_t)lengths[TABLET_LENGTH_SEEN];
+    a->canonical_len = (size_t)lengths[TABLET_LENGTH_CANONICAL];
+    a->integral = (double *)block;
+    a->patches = (uint64_t *)(void *)(a->integral + a->integral_len);
+    a->candidates = (double *)(void *)(a->patches + a->patches_len);
+    a->means = a->candidates + a->candidates_len;
+    a->luma = (float *)(void *)(a->means + a->means_len);
+    a->waiting = (uint32_t *)(void *)(a->luma + a->luma_len);
+    a->blob_index = a->waiting + a->waiting_len;
+    a->mask = (uint8_t *)(void *)(a->blob_index + a->blob_index_len);
+    a->seen = a->mask + a->mask_len;
+    a->canonical = a->seen + a->seen_len;
+    return 1;
+}
+
+/* tablet_rectify: the card is in a->canonical, the rest in a->counts and a->fit. */
+static inline uint32_t tablet_areas_rectify(struct tablet_areas *a, size_t w, size_t h,
+                                            size_t width, size_t height, size_t cell, size_t margin)
+{
+    return tablet_rectify(a->capture, a->capture_len, w, h, width, height, cell, margin,
+                          a->luma, a->luma_len, a->integral, a->integral_len, a->mask, a->mask_len, a->seen, a->seen_len,
+                          a->waiting, a->waiting_len, a->patches, a->patches_len,
+                          a->candidates, a->candidates_len, a->blob_index, a->blob_index_len,
+                          a->means, a->means_len, a->canonical, a->canonical_len,
+                          a->counts, TABLET_COUNTS_LEN, a->fit, TABLET_SCORED_FIT_LEN);
+}
+
+/* tablet_fit_geometry: the fit is in a->fit, the rest in a->counts. */
+static inline uint32_t tablet_areas_fit(struct tablet_areas *a, size_t w, size_t h,
+                                        size_t width, size_t height, size_t cell, size_t margin)
+{
+    return tablet_fit_geometry(a->capture, a->capture_len, w, h, width, height, cell, margin,
+                               a->luma, a->luma_len, a->integral, a->integral_len,
+                               a->mask, a->mask_len, a->seen, a->seen_len,
+                               a->waiting, a->waiting_len, a->patches, a->patches_len,
+                               a->candidates, a->candidates_len, a->blob_index, a->blob_index_len,
+                               a->means, a->means_len, a->counts, TABLET_COUNTS_LEN, a->fit, TABLET_SCORED_FIT_LEN);
+}
+
+/* tablet_fiducial_candidates: patches and candidates are in the areas, their numbers in the first three of a->counts. */
+static inline uint32_t tablet_areas_look(struct tablet_areas *a, size_t w, size_t h,
+                                         size_t width, size_t height, size_t cell, size_t margin)
+{
+    return tablet_fiducial_candidates(a->capture, a->capture_len, w, h, width, height, cell, margin,
+                                      a->luma, a->luma_len, a->integral, a->integral_len,
+                                      a->mask, a->mask_len, a->seen, a->seen_len,
+                                      a->waiting, a->waiting_len, a->patches, a->patches_len,
+                                      a->candidates, a->candidates_len, a->blob_index, a->blob_index_len,
+                                      a->counts, TABLET_LISTED_LEN);
+}
 
 #ifdef __cplusplus
 }

@@ -1,277 +1,249 @@
 //! The command `flatten`.
 
-use crate::{overlay, p6, report, Frame, Grade, Rectified, Refusal, Workspace};
-use std::ffi::{OsStr, OsString};
-use std::fs::{self, File};
-use std::io::{self, BufReader, BufWriter, IsTerminal, Write};
-use std::path::{Path, PathBuf};
+use crate::files::{self, Place};
+use crate::options::{self, quoted, Action, Options};
+use crate::phase::{PHASE_LIMIT, SCORE_LIMIT};
+use crate::{overlay, p6, report, Grade, Rectified, Refusal, Workspace};
+use std::ffi::OsString;
+use std::fs::File;
+use std::io::{self, BufReader, IsTerminal, Write};
+use std::path::Path;
 
 const HELP: &str = "\
 usage: flatten [OPTIONS] [FILE]
 
 Lays the photograph of a card flat. FILE is a Netpbm P6 picture of at most 4096 by 4096 pixels, greatest sample 255;
-without FILE, or where it is -, standard input is read. The card goes to standard output as P6.
+without FILE, or where it is -, standard input is read. The card goes to standard output as P6, its score and phase to
+standard error.
 
-  -o FILE                        write the card to FILE; where the capture is refused FILE stays as it was
+  -o FILE                        write the card to FILE; where there is none FILE stays as it was
   --frame W,H,CELL,MARGIN        the card's description, default 848,636,10,106
   --report FILE                  write what was found as JSON, also where the capture is refused
   --overlay FILE                 write the capture with candidates, corners and grid drawn in (P6), also after a refusal from 7 up
+  --strict                       do not write a doubtful card
   --help, --version
 
+A card is doubtful where its score is below 60 and its phase, how far its edges lie off the cell borders, above 0.25 of a cell:
+it was laid by the rules, but perhaps by a wrong ring, or the wrong way up. A card that is not doubtful may still be upside down.
+
 Exit status: 0 accepted; 1 refused, with one line `refused N: why; what to do` on standard error; 2 bad usage, a bad picture or
-a file that cannot be read or written.
+a file that cannot be read or written; 3 doubtful, with --strict.
 ";
 
 pub const ACCEPTED: u8 = 0;
 pub const REFUSED: u8 = 1;
 pub const FAILED: u8 = 2;
+pub const DOUBTFUL: u8 = 3;
 
-#[derive(Debug, PartialEq)]
-struct Options {
-    input: Option<PathBuf>,
-    card: Option<PathBuf>,
-    frame: Frame,
-    report: Option<PathBuf>,
-    overlay: Option<PathBuf>,
+/// What is said on standard error. A line that cannot be written there loses nothing else: it is remembered for the exit status.
+struct Messages {
+    lost: bool,
 }
 
-#[derive(Debug, PartialEq)]
-enum Wish {
-    Help,
-    Version,
-    Flatten(Options),
+impl Messages {
+    fn say(&mut self, text: &str) {
+        self.lost |= io::stderr().write_all(format!("{text}\n").as_bytes()).is_err();
+    }
 }
 
-fn options(args: impl IntoIterator<Item = OsString>) -> Result<Wish, String> {
-    let mut args = args.into_iter();
-    let (mut input, mut card, mut frame, mut report, mut overlay) = (None, None, None, None, None);
-    let mut only_files = false;
-    while let Some(arg) = args.next() {
-        let name = arg.to_string_lossy().into_owned();
-        if only_files || name == "-" || !name.starts_with('-') {
-            put(&mut input, PathBuf::from(arg), "a second FILE")?;
-            continue;
-        }
-        // `--frame=..` stands for `--frame ..`
-        let (option, joined) = match name.split_once('=') {
-            Some((option, value)) if option.starts_with("--") => (option.to_string(), Some(OsString::from(value))),
-            _ => (name, None),
+/// No output may be the input's file or another output's: it would be lost. By what the names stand for, not by the names.
+fn apart(o: &Options) -> Result<(), String> {
+    let mut known = Vec::new();
+    let input = match &o.input {
+        // What cannot be found is said when it is read.
+        Some(path) => Place::of_path(path).ok().flatten(),
+        None => Place::of_open(&io::stdin()),
+    };
+    known.extend(input.map(|place| ("the photograph", place)));
+    let outputs = [("the card", &o.card), ("the report", &o.report), ("the overlay", &o.overlay)];
+    for (what, path) in outputs {
+        let place = match path {
+            Some(path) => Place::of_path(path).map_err(|e| format!("{}: {e}", path.display()))?,
+            None if what == "the card" => Place::of_open(&io::stdout()),
+            None => None,
         };
-        let mut value = || joined.clone().or_else(|| args.next()).ok_or(format!("{option} wants a value"));
-        match option.as_str() {
-            "--help" | "-h" => return Ok(Wish::Help),
-            "--version" => return Ok(Wish::Version),
-            "--" => only_files = true,
-            "-o" => put(&mut card, PathBuf::from(value()?), "-o a second time")?,
-            "--report" => put(&mut report, file(value()?, "--report")?, "--report a second time")?,
-            "--overlay" => put(&mut overlay, file(value()?, "--overlay")?, "--overlay a second time")?,
-            "--frame" => {
-                let text = value()?;
-                let parsed = text.to_string_lossy().parse().map_err(|e| format!("--frame {}: {e}", text.to_string_lossy()))?;
-                put(&mut frame, parsed, "--frame a second time")?
-            }
-            _ => return Err(format!("there is no option {option}")),
+        let Some(place) = place else { continue };
+        if let Some((other, _)) = known.iter().find(|(_, known)| *known == place) {
+            let name = path.as_ref().map_or("standard output".into(), |path| path.display().to_string());
+            return Err(format!("{name} would be {what} and is {other}: they need a file each"));
         }
+        known.push((what, place));
     }
-    let card = card.filter(|path: &PathBuf| path != Path::new("-"));
-    let outputs: Vec<&PathBuf> = [&card, &report, &overlay].into_iter().flatten().collect();
-    for (i, path) in outputs.iter().enumerate() {
-        if outputs[..i].contains(path) {
-            return Err(format!("{} is named for two results", path.display()));
-        }
+    if let Some((other, _)) = Place::of_open(&io::stderr()).and_then(|place| known.into_iter().find(|(_, known)| *known == place)) {
+        return Err(format!("standard error goes to the same file as {other}: they need a file each"));
     }
-    Ok(Wish::Flatten(Options {
-        input: input.filter(|path| path != Path::new("-")),
-        card,
-        frame: frame.unwrap_or(Frame::BENCH),
-        report,
-        overlay,
-    }))
-}
-
-fn put<T>(place: &mut Option<T>, value: T, what: &str) -> Result<(), String> {
-    match place.replace(value) {
-        None => Ok(()),
-        Some(_) => Err(format!("{what} is too many")),
-    }
-}
-
-fn file(value: OsString, option: &str) -> Result<PathBuf, String> {
-    if value.is_empty() || value == "-" {
-        return Err(format!("{option} wants the name of a file: standard output carries the card"));
-    }
-    Ok(PathBuf::from(value))
-}
-
-/// Writes to a file beside `path` and renames it, so that `path` has all or stays as it was. What is no ordinary file, as a
-/// pipe or a device, is written straight.
-fn write_file(path: &Path, content: impl FnOnce(&mut dyn Write) -> io::Result<()>) -> io::Result<()> {
-    // A link keeps pointing where it does: what it names is replaced.
-    let path = &fs::canonicalize(path).unwrap_or_else(|_| path.to_path_buf());
-    if fs::metadata(path).is_ok_and(|m| !m.is_file()) {
-        let mut out = File::options().write(true).open(path)?;
-        return content(&mut out);
-    }
-    let mut name = OsString::from(".");
-    name.push(path.file_name().unwrap_or(OsStr::new("flatten")));
-    name.push(format!(".{}", std::process::id()));
-    let beside = path.with_file_name(name);
-    let written = (|| {
-        let mut out = BufWriter::new(File::options().write(true).create_new(true).open(&beside)?);
-        content(&mut out)?;
-        out.into_inner()?.sync_all()?;
-        fs::rename(&beside, path)
-    })();
-    if written.is_err() {
-        let _ = fs::remove_file(&beside);
-    }
-    written
+    Ok(())
 }
 
 fn read(input: Option<&Path>) -> Result<p6::Picture, String> {
-    let name = input.map_or("standard input".into(), |path| path.display().to_string());
     let picture = match input {
         Some(path) => File::open(path).map_err(p6::Error::Io).and_then(|f| p6::read(&mut BufReader::new(f))),
         None => p6::read(&mut io::stdin().lock()),
     };
-    picture.map_err(|e| format!("{name}: {e}"))
+    let name = input.map_or("standard input".into(), |path| path.display().to_string());
+    picture.map_err(|e| match e {
+        p6::Error::Other(format) => format!("{name}: {format}; {}", conversion(format, input)),
+        e => format!("{name}: {e}"),
+    })
 }
 
-fn warn(workspace: &Workspace, card: &Rectified) {
-    let unsupported = "the lens term is not supported by the picture";
-    match card.grade {
-        Grade::Score(_) => {}
-        Grade::TooFew => {
-            eprintln!("flatten: warning: {unsupported}: too few cells ({} are sampled, 16 are needed)", workspace.sampled_cells())
-        }
-        Grade::Outside(cell) => eprintln!("flatten: warning: {unsupported}: cell {cell} is outside"),
+/// The command that makes P6 of another format, as it is typed. What it writes is not there yet.
+fn conversion(format: p6::Format, input: Option<&Path>) -> String {
+    use p6::Format::*;
+    let (dash, name) = input.map_or(("-".into(), "".into()), |path| (quoted(path), format!(" {}", quoted(path))));
+    let made = ["ppm", "p6.ppm"].map(|extension| input.unwrap_or(Path::new("photo")).with_extension(extension));
+    let ppm = quoted(made.iter().find(|path| !path.exists()).unwrap_or(&made[1]));
+    match format {
+        Jpeg => format!(
+            "`convert {dash} -auto-orient ppm:- > {ppm}` makes P6 of it and applies the camera's EXIF turn, \
+             which `djpeg -pnm{name} > {ppm}` does not"
+        ),
+        Png => format!(
+            "`convert {dash} -auto-orient -depth 8 ppm:- > {ppm}` makes P6 of it, and so does `pngtopnm{name} > {ppm}` \
+             where it is in colour and of 8 bits"
+        ),
+        Netpbm(_) | Deep(_) => format!("`convert {dash} -depth 8 ppm:- > {ppm}` makes P6 of it, greatest sample 255"),
+        Unknown => format!("`convert {dash} -auto-orient -depth 8 ppm:- > {ppm}` makes P6 of what ImageMagick can read"),
     }
 }
 
-/// Everything but the messages: the answer, or what went wrong.
-fn flatten(o: &Options) -> Result<Result<(), Refusal>, String> {
+/// Score and phase always, and what to look for where they make the card doubtful.
+fn describe(messages: &mut Messages, workspace: &Workspace, card: &Rectified, o: &Options) {
+    let unsupported = "the lens term is not supported by the picture";
+    let (score, warning) = match card.grade {
+        Grade::Score(score) => (format!("score {score:.1}"), None),
+        Grade::TooFew => {
+            let cells = workspace.sampled_cells();
+            ("no score".into(), Some(format!("{unsupported}: too few cells ({cells} are sampled, 16 are needed)")))
+        }
+        Grade::Outside(cell) => ("no score".into(), Some(format!("{unsupported}: cell {cell} is outside"))),
+    };
+    messages.say(&format!("flatten: {score}, phase {:.3}", card.phase));
+    if let Some(warning) = warning {
+        messages.say(&format!("flatten: warning: {warning}"));
+    }
+    if card.doubtful() {
+        let overlay = o.overlay.as_ref().map_or("the overlay (--overlay FILE)".into(), |path| path.display().to_string());
+        messages
+            .say(&format!("flatten: warning: this card is doubtful: its score is below {SCORE_LIMIT} and its phase above {PHASE_LIMIT}"));
+        messages.say(&format!(
+            "flatten: before a wheel is cut look at {overlay}, for a ring that is covered, cut or blurred; a card that is turned, mirrored \
+             or upside down; a camera's EXIF turn that was not applied; a lens beyond ±0.20"
+        ));
+    }
+}
+
+/// The results of one run. A result that cannot be written is said, and the others are still written.
+struct Results<'a> {
+    messages: &'a mut Messages,
+    failed: bool,
+}
+
+impl Results<'_> {
+    fn put(&mut self, name: &str, written: io::Result<()>) {
+        if let Err(e) = written {
+            self.messages.say(&format!("flatten: {name}: {e}"));
+            self.failed = true;
+        }
+    }
+
+    fn file(&mut self, path: &Path, bytes: &[u8]) {
+        self.put(&path.display().to_string(), files::write(path, bytes));
+    }
+
+    fn stdout(&mut self, bytes: &[u8]) {
+        let mut out = io::stdout().lock();
+        self.put("standard output", out.write_all(bytes).and_then(|()| out.flush()));
+    }
+
+    fn status(&self, status: u8) -> u8 {
+        if self.failed {
+            FAILED
+        } else {
+            status
+        }
+    }
+
+    fn refused(&mut self, refusal: Refusal) -> u8 {
+        self.messages.say(&refusal.to_string());
+        self.status(REFUSED)
+    }
+}
+
+fn flatten(o: &Options, messages: &mut Messages) -> Result<u8, String> {
     if o.card.is_none() && io::stdout().is_terminal() {
         return Err("the card would go to the terminal: name a file by -o, or send standard output to one".into());
     }
+    apart(o)?;
     let capture = read(o.input.as_deref())?;
-    let named = |path: &Path, e: io::Error| format!("{}: {e}", path.display());
+    let about = report::About { file: o.input.as_deref(), sides: (capture.w, capture.h), frame: o.frame };
+    let mut results = Results { messages, failed: false };
     let mut workspace = match Workspace::new(capture.w, capture.h, o.frame) {
         Ok(workspace) => workspace,
         Err(refusal) => {
             if let Some(path) = &o.report {
-                let text = report::report(None, &Err(refusal));
-                write_file(path, |out| out.write_all(text.as_bytes())).map_err(|e| named(path, e))?;
+                results.file(path, report::report(&about, None, &Err(refusal)).as_bytes());
             }
-            return Ok(Err(refusal));
+            return Ok(results.refused(refusal));
         }
     };
     let answer = workspace.rectify(&capture.data);
     if let Some(path) = &o.report {
-        let text = report::report(Some(&workspace), &answer);
-        write_file(path, |out| out.write_all(text.as_bytes())).map_err(|e| named(path, e))?;
+        results.file(path, report::report(&about, Some(&workspace), &answer).as_bytes());
     }
     if let Some(path) = o.overlay.as_ref().filter(|_| workspace.looked()) {
-        let mut drawn = capture.data.clone();
+        let mut drawn = capture.data;
         overlay::draw(&mut drawn, &workspace, answer.as_ref().ok());
-        write_file(path, |mut out| p6::write(&mut out, capture.w, capture.h, &drawn)).map_err(|e| named(path, e))?;
+        results.file(path, &p6::bytes(capture.w, capture.h, &drawn));
     }
-    let card = match answer {
-        Ok(card) => card,
-        Err(refusal) => return Ok(Err(refusal)),
-    };
-    warn(&workspace, &card);
-    let (w, h) = (o.frame.width, o.frame.height);
+    Ok(match answer {
+        Ok(card) => put_card(o, &mut results, &workspace, &card),
+        Err(refusal) => results.refused(refusal),
+    })
+}
+
+fn put_card(o: &Options, results: &mut Results, workspace: &Workspace, card: &Rectified) -> u8 {
+    describe(results.messages, workspace, card, o);
+    if o.strict && card.doubtful() {
+        results.messages.say("flatten: the doubtful card is not written (--strict)");
+        return results.status(DOUBTFUL);
+    }
+    let bytes = p6::bytes(o.frame.width, o.frame.height, workspace.canonical());
     match &o.card {
-        Some(path) => write_file(path, |mut out| p6::write(&mut out, w, h, workspace.canonical())).map_err(|e| named(path, e))?,
-        None => {
-            let mut out = BufWriter::new(io::stdout().lock());
-            p6::write(&mut out, w, h, workspace.canonical()).and_then(|()| out.flush()).map_err(|e| format!("standard output: {e}"))?
-        }
+        Some(path) => results.file(path, &bytes),
+        None => results.stdout(&bytes),
     }
-    Ok(Ok(()))
+    results.status(ACCEPTED)
 }
 
-/// Runs the command on its arguments, the name left out, and gives the exit status.
-pub fn run(args: impl IntoIterator<Item = OsString>) -> u8 {
-    let wish = match options(args) {
-        Ok(wish) => wish,
+fn print(text: &str, messages: &mut Messages) -> u8 {
+    let mut results = Results { messages, failed: false };
+    results.stdout(text.as_bytes());
+    results.status(ACCEPTED)
+}
+
+/// Runs the command on its arguments, the name left out, and gives the exit status. `stdout_open` tells whether there is a
+/// standard output at all.
+pub fn run(args: impl IntoIterator<Item = OsString>, stdout_open: bool) -> u8 {
+    let mut messages = Messages { lost: false };
+    let action = options::parse(args).map_err(|e| format!("{e}; flatten --help says more")).and_then(|action| {
+        let prints = !matches!(&action, Action::Flatten(o) if o.card.is_some());
+        if prints && !stdout_open {
+            return Err("standard output is closed".into());
+        }
+        Ok(action)
+    });
+    let status = action.and_then(|action| match action {
+        Action::Help => Ok(print(HELP, &mut messages)),
+        Action::Version => Ok(print(concat!("flatten ", env!("CARGO_PKG_VERSION"), "\n"), &mut messages)),
+        Action::Flatten(o) => flatten(&o, &mut messages),
+    });
+    match status {
+        Ok(ACCEPTED) if messages.lost => FAILED,
+        Ok(status) => status,
         Err(e) => {
-            eprintln!("flatten: {e}; flatten --help says more");
-            return FAILED;
-        }
-    };
-    let print = |text: &str| match io::stdout().write_all(text.as_bytes()) {
-        Ok(()) => ACCEPTED,
-        Err(_) => FAILED,
-    };
-    match wish {
-        Wish::Help => print(HELP),
-        Wish::Version => print(concat!("flatten ", env!("CARGO_PKG_VERSION"), "\n")),
-        Wish::Flatten(o) => match flatten(&o) {
-            Ok(Ok(())) => ACCEPTED,
-            Ok(Err(refusal)) => {
-                eprintln!("{refusal}");
-                REFUSED
-            }
-            Err(e) => {
-                eprintln!("flatten: {e}");
-                FAILED
-            }
-        },
-    }
-}
-
-#[cfg(test)]
-mod tests {
-    use super::*;
-
-    fn parsed(args: &[&str]) -> Result<Wish, String> {
-        options(args.iter().map(OsString::from))
-    }
-
-    #[test]
-    fn all_options() {
-        let wish = parsed(&["--frame", "192,192,1,48", "-o", "c", "--report=r", "--overlay", "v", "in"]);
-        let Ok(Wish::Flatten(o)) = wish else { panic!("{wish:?}") };
-        assert_eq!(o.frame, Frame { width: 192, height: 192, cell: 1, margin: 48 });
-        let names = [&o.input, &o.card, &o.report, &o.overlay].map(|p| p.as_ref().unwrap().to_str().unwrap());
-        assert_eq!(names, ["in", "c", "r", "v"]);
-    }
-
-    #[test]
-    fn defaults() {
-        let none = Options { input: None, card: None, frame: Frame::BENCH, report: None, overlay: None };
-        assert_eq!(parsed(&[]), Ok(Wish::Flatten(none)));
-        assert_eq!(parsed(&["-", "-o", "-"]), parsed(&[]));
-        assert_eq!(parsed(&["--help", "--nonsense"]), Ok(Wish::Help));
-        assert_eq!(parsed(&["--version"]), Ok(Wish::Version));
-    }
-
-    #[test]
-    fn a_file_may_begin_with_a_dash() {
-        let Ok(Wish::Flatten(o)) = parsed(&["--", "-o"]) else { panic!() };
-        assert_eq!(o.input, Some(PathBuf::from("-o")));
-    }
-
-    #[test]
-    fn bad_usage_is_named() {
-        for (args, why) in [
-            (&["--frame", "1,2,3"][..], "four numbers are wanted, there are 3"),
-            (&["--frame", "1,2,3,4,5"], "there are 5"),
-            (&["--frame", "1,2,3,x"], "'x' is not a whole number"),
-            (&["--frame", "1,2,3,-4"], "'-4' is not a whole number"),
-            (&["--frame", ""], "'' is not a whole number"),
-            (&["--frame"], "--frame wants a value"),
-            (&["-o"], "-o wants a value"),
-            (&["--colour"], "there is no option --colour"),
-            (&["-x"], "there is no option -x"),
-            (&["a", "b"], "a second FILE is too many"),
-            (&["-o", "a", "-o", "b"], "-o a second time is too many"),
-            (&["--report", "-"], "--report wants the name of a file"),
-            (&["-o", "a", "--report", "a"], "a is named for two results"),
-        ] {
-            let e = parsed(args).unwrap_err();
-            assert!(e.contains(why), "{args:?}: {e}");
+            messages.say(&format!("flatten: {e}"));
+            FAILED
         }
     }
 }

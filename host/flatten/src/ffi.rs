@@ -1,8 +1,9 @@
 //! The functions of libtablet.a (host/include/tablet.h), each behind a safe function that takes slices.
 //!
 //! This is the only module with `unsafe`. The calls are sound for slices of any length and content: the library is proved to
-//! read and write only inside what it is handed, and Rust's borrows keep the slices apart. Each function returns the refusal
-//! number, 0 where it accepts.
+//! read and write only inside what it is handed and to keep nothing, and Rust's borrows keep the slices apart. So each
+//! `SAFETY` has to say only that a pointer goes with its own slice's length. Each function returns the refusal number, 0
+//! where it accepts.
 
 use crate::Frame;
 
@@ -137,6 +138,7 @@ mod c {
 }
 
 pub fn lengths(w: usize, h: usize, f: Frame, lengths: &mut [u64]) -> u32 {
+    // SAFETY: the results' slice goes with its own length, and is lent to this call alone.
     unsafe { c::tablet_lengths(w, h, f.width, f.height, f.cell, f.margin, lengths.as_mut_ptr(), lengths.len()) }
 }
 
@@ -146,6 +148,7 @@ pub fn rectify(
     capture: &[u8], w: usize, h: usize, f: Frame, a: &mut Areas,
     means: &mut [f64], canonical: &mut [u8], counts: &mut [u64], fit: &mut [f64],
 ) -> u32 {
+    // SAFETY: each slice goes with its own length; the lent ones are borrowed apart from one another and from the capture.
     unsafe {
         c::tablet_rectify(
             capture.as_ptr(), capture.len(), w, h, f.width, f.height, f.cell, f.margin,
@@ -165,6 +168,7 @@ pub fn fit_geometry(
     capture: &[u8], w: usize, h: usize, f: Frame, a: &mut Areas,
     means: &mut [f64], counts: &mut [u64], fit: &mut [f64],
 ) -> u32 {
+    // SAFETY: each slice goes with its own length; the lent ones are borrowed apart from one another and from the capture.
     unsafe {
         c::tablet_fit_geometry(
             capture.as_ptr(), capture.len(), w, h, f.width, f.height, f.cell, f.margin,
@@ -181,6 +185,7 @@ pub fn fit_geometry(
 pub fn detect_fiducials(
     capture: &[u8], w: usize, h: usize, f: Frame, a: &mut Areas, counts: &mut [u64], points: &mut [f64],
 ) -> u32 {
+    // SAFETY: each slice goes with its own length; the lent ones are borrowed apart from one another and from the capture.
     unsafe {
         c::tablet_detect_fiducials(
             capture.as_ptr(), capture.len(), w, h, f.width, f.height, f.cell, f.margin,
@@ -195,6 +200,7 @@ pub fn detect_fiducials(
 
 #[rustfmt::skip]
 pub fn fiducial_candidates(capture: &[u8], w: usize, h: usize, f: Frame, a: &mut Areas, counts: &mut [u64]) -> u32 {
+    // SAFETY: each slice goes with its own length; the lent ones are borrowed apart from one another and from the capture.
     unsafe {
         c::tablet_fiducial_candidates(
             capture.as_ptr(), capture.len(), w, h, f.width, f.height, f.cell, f.margin,
@@ -211,6 +217,7 @@ pub fn fiducial_candidates(capture: &[u8], w: usize, h: usize, f: Frame, a: &mut
 pub fn label_blobs(
     mask: &[u8], w: usize, h: usize, seen: &mut [u8], waiting: &mut [u32], patches: &mut [u64], counts: &mut [u64],
 ) -> u32 {
+    // SAFETY: each slice goes with its own length; the lent ones are borrowed apart from one another and from the mask.
     unsafe {
         c::tablet_label_blobs(
             mask.as_ptr(), mask.len(), w, h, seen.as_mut_ptr(), seen.len(), waiting.as_mut_ptr(), waiting.len(),
@@ -221,6 +228,7 @@ pub fn label_blobs(
 
 #[rustfmt::skip]
 pub fn fit_for(w: usize, h: usize, f: Frame, points: &[f64], k: f64, fit: &mut [f64]) -> u32 {
+    // SAFETY: points and fit go with their own lengths, and the fit is borrowed apart from the points.
     unsafe {
         c::tablet_fit_for(
             w, h, f.width, f.height, f.cell, f.margin,
@@ -234,6 +242,7 @@ pub fn fit_for(w: usize, h: usize, f: Frame, points: &[f64], k: f64, fit: &mut [
 pub fn grid_score(
     capture: &[u8], w: usize, h: usize, f: Frame, fit: &[f64], means: &mut [f64], grade: &mut [u64], score: &mut [f64],
 ) -> u32 {
+    // SAFETY: each slice goes with its own length; means, grade and score are borrowed apart from one another and from what is read.
     unsafe {
         c::tablet_grid_score(
             capture.as_ptr(), capture.len(), w, h, f.width, f.height, f.cell, f.margin,
@@ -245,6 +254,7 @@ pub fn grid_score(
 
 #[rustfmt::skip]
 pub fn warp_with(capture: &[u8], w: usize, h: usize, f: Frame, fit: &[f64], canonical: &mut [u8]) -> u32 {
+    // SAFETY: each slice goes with its own length; the card is borrowed apart from capture and fit.
     unsafe {
         c::tablet_warp_with(
             capture.as_ptr(), capture.len(), w, h, f.width, f.height, f.cell, f.margin,
@@ -255,25 +265,30 @@ pub fn warp_with(capture: &[u8], w: usize, h: usize, f: Frame, fit: &[f64], cano
 
 #[rustfmt::skip]
 pub fn stamp_fiducials(image: &mut [u8], w: usize, h: usize, f: Frame) -> u32 {
+    // SAFETY: the image goes with its own length, and is lent to this call alone.
     unsafe {
         c::tablet_stamp_fiducials(image.as_mut_ptr(), image.len(), w, h, f.width, f.height, f.cell, f.margin)
     }
 }
 
 pub fn marker_centers(f: Frame, points: &mut [f64]) -> u32 {
+    // SAFETY: the points go with their own length, and are lent to this call alone.
     unsafe { c::tablet_marker_centers(f.width, f.height, f.cell, f.margin, points.as_mut_ptr(), points.len()) }
 }
 
 pub fn marker_numbers(cell: usize, numbers: &mut [u64]) -> u32 {
+    // SAFETY: the numbers go with their own length, and are lent to this call alone.
     unsafe { c::tablet_marker_numbers(cell, numbers.as_mut_ptr(), numbers.len()) }
 }
 
 pub fn grid(f: Frame, numbers: &mut [u64]) -> u32 {
+    // SAFETY: the numbers go with their own length, and are lent to this call alone.
     unsafe { c::tablet_grid(f.width, f.height, f.cell, f.margin, numbers.as_mut_ptr(), numbers.len()) }
 }
 
 #[rustfmt::skip]
 pub fn from_points(source: &[f64], target: &[f64], matrix: &mut [f64]) -> u32 {
+    // SAFETY: each slice goes with its own length; the matrix is borrowed apart from both point lists, which are only read.
     unsafe {
         c::tablet_from_points(
             source.as_ptr(), source.len(), target.as_ptr(), target.len(), matrix.as_mut_ptr(), matrix.len(),
@@ -282,33 +297,41 @@ pub fn from_points(source: &[f64], target: &[f64], matrix: &mut [f64]) -> u32 {
 }
 
 pub fn inverse(matrix: &[f64], result: &mut [f64]) -> u32 {
+    // SAFETY: both slices go with their own lengths, and the result is borrowed apart from the matrix.
     unsafe { c::tablet_inverse(matrix.as_ptr(), matrix.len(), result.as_mut_ptr(), result.len()) }
 }
 
 pub fn apply(matrix: &[f64], x: f64, y: f64, point: &mut [f64]) -> u32 {
+    // SAFETY: both slices go with their own lengths, and the point is borrowed apart from the matrix.
     unsafe { c::tablet_apply(matrix.as_ptr(), matrix.len(), x, y, point.as_mut_ptr(), point.len()) }
 }
 
 pub fn mat3_mul(a: &[f64], b: &[f64], result: &mut [f64]) -> u32 {
+    // SAFETY: each slice goes with its own length; the result is borrowed apart from both factors, which are only read.
     unsafe { c::tablet_mat3_mul(a.as_ptr(), a.len(), b.as_ptr(), b.len(), result.as_mut_ptr(), result.len()) }
 }
 
 pub fn radial(w: usize, h: usize, k: f64, lens: &mut [f64]) -> u32 {
+    // SAFETY: the lens goes with its own length, and is lent to this call alone.
     unsafe { c::tablet_radial(w, h, k, lens.as_mut_ptr(), lens.len()) }
 }
 
 pub fn distort(lens: &[f64], x: f64, y: f64, point: &mut [f64]) -> u32 {
+    // SAFETY: both slices go with their own lengths, and the point is borrowed apart from the lens.
     unsafe { c::tablet_distort(lens.as_ptr(), lens.len(), x, y, point.as_mut_ptr(), point.len()) }
 }
 
 pub fn undistort(lens: &[f64], x: f64, y: f64, point: &mut [f64]) -> u32 {
+    // SAFETY: both slices go with their own lengths, and the point is borrowed apart from the lens.
     unsafe { c::tablet_undistort(lens.as_ptr(), lens.len(), x, y, point.as_mut_ptr(), point.len()) }
 }
 
 pub fn bilinear(capture: &[u8], w: usize, h: usize, x: f64, y: f64, colour: &mut [u8]) -> u32 {
+    // SAFETY: both slices go with their own lengths, and the colour is borrowed apart from the capture.
     unsafe { c::tablet_bilinear(capture.as_ptr(), capture.len(), w, h, x, y, colour.as_mut_ptr(), colour.len()) }
 }
 
 pub fn rms_error(a: &[f64], b: &[f64], result: &mut [f64]) -> u32 {
+    // SAFETY: each slice goes with its own length; the result is borrowed apart from both point lists, which are only read.
     unsafe { c::tablet_rms_error(a.as_ptr(), a.len(), b.as_ptr(), b.len(), result.as_mut_ptr(), result.len()) }
 }

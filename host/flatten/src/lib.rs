@@ -5,23 +5,28 @@
 //! # let photograph = vec![0u8; 3 * 1280 * 720];
 //! let mut workspace = Workspace::new(1280, 720, Frame::BENCH).unwrap(); // once
 //! match workspace.rectify(&photograph) {
+//!     Ok(card) if card.doubtful() => println!("look at it: score {:?}, phase {}", card.score(), card.phase),
 //!     Ok(card) => println!("lens term {}", card.fit.k()),
 //!     Err(refusal) => eprintln!("{refusal}"),
 //! }
 //! ```
 #![deny(unsafe_code)]
+#![warn(clippy::undocumented_unsafe_blocks)]
 
 pub mod command;
 #[allow(unsafe_code)]
 pub mod ffi;
+mod files;
+mod options;
 pub mod overlay;
 pub mod p6;
+pub mod phase;
 mod refusal;
 pub mod report;
 mod workspace;
 
-pub use refusal::{Mender, Refusal};
-pub use workspace::{Candidate, Fit, Grade, Patch, Rectified, Workspace};
+pub use refusal::{Refusal, Responsible};
+pub use workspace::{Candidate, Fit, Fitted, Grade, Patch, Rectified, Workspace};
 
 /// The description of a card: its sides, the side of a cell and the margin, in canonical pixels.
 #[derive(Clone, Copy, Debug, PartialEq, Eq)]

@@ -2,9 +2,9 @@
 
 use std::fmt;
 
-/// Who can mend what was refused.
+/// Who has to act on a refusal.
 #[derive(Clone, Copy, Debug, PartialEq, Eq)]
-pub enum Mender {
+pub enum Responsible {
     /// The writer of the frame description.
     Frame,
     /// The host that lends memory.
@@ -38,12 +38,12 @@ impl Refusal {
         self.0 >= 7
     }
 
-    pub fn mender(self) -> Mender {
+    pub fn responsible(self) -> Responsible {
         match self.0 {
-            1 | 5 => Mender::Frame,
-            2..=4 => Mender::Host,
-            6..=9 => Mender::Photographer,
-            _ => Mender::Points,
+            1 | 5 => Responsible::Frame,
+            2..=4 => Responsible::Host,
+            6..=9 => Responsible::Photographer,
+            _ => Responsible::Points,
         }
     }
 
@@ -79,9 +79,9 @@ impl Refusal {
             6 => "photograph again, larger",
             7 => {
                 "photograph again, with all four rings whole, sharp and evenly lit, each at least 10 pixels wide and at \
-                  most a quarter of the picture's shorter side"
+                  most a quarter of the picture's shorter side, and the card upright: turned by less than 10 degrees"
             }
-            8 => "photograph again, with all four rings in the picture and the card turned by less than 45 degrees",
+            8 => "photograph again, with all four rings in the picture and the card upright: turned by less than 10 degrees",
             9 => "photograph again, nearer and straighter, with all four rings in the picture",
             10 => "hand in four points of which no three lie on one line",
             11 => "hand in another matrix",

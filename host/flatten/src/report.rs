@@ -1,7 +1,17 @@
 //! The report: one JSON object, the same shape always. What a refusal leaves undefined is null.
 
-use crate::{Grade, Rectified, Refusal, Workspace};
+use crate::{Frame, Grade, Rectified, Refusal, Workspace};
 use std::fmt::Write;
+use std::path::Path;
+
+/// What the report is about.
+pub struct About<'a> {
+    /// None for standard input.
+    pub file: Option<&'a Path>,
+    /// Width and height of the capture.
+    pub sides: (usize, usize),
+    pub frame: Frame,
+}
 
 /// Shortest form that reads back to the same bits; NaN is null, infinities are strings.
 pub fn float(x: f64) -> String {
@@ -18,6 +28,19 @@ fn floats(l: &[f64]) -> String {
     format!("[{}]", l.iter().map(|&x| float(x)).collect::<Vec<_>>().join(", "))
 }
 
+/// What is not UTF-8 becomes U+FFFD.
+fn string(text: &str) -> String {
+    let mut out = String::from("\"");
+    for c in text.chars() {
+        match c {
+            '"' | '\\' => out.extend(['\\', c]),
+            '\0'..='\x1f' => out += &format!("\\u{:04x}", c as u32),
+            c => out.push(c),
+        }
+    }
+    out + "\""
+}
+
 fn grade(g: Grade) -> String {
     match g {
         Grade::Score(s) => format!("{{\"score\": {}}}", float(s)),
@@ -29,7 +52,7 @@ fn grade(g: Grade) -> String {
 const NULL: &str = "null";
 
 /// The report of the workspace's last call and of its answer.
-pub fn report(workspace: Option<&Workspace>, answer: &Result<Rectified, Refusal>) -> String {
+pub fn report(about: &About, workspace: Option<&Workspace>, answer: &Result<Rectified, Refusal>) -> String {
     let number = answer.err().map_or(0, Refusal::number);
     let looked = workspace.filter(|w| w.looked());
     let of_look = |f: &dyn Fn(&Workspace) -> String| looked.map_or(NULL.into(), f);
@@ -42,8 +65,16 @@ pub fn report(workspace: Option<&Workspace>, answer: &Result<Rectified, Refusal>
         });
         format!("[{}]", each.collect::<Vec<_>>().join(", "))
     };
+    let Frame { width, height, cell, margin } = about.frame;
     let fields = [
+        ("version", string(env!("CARGO_PKG_VERSION"))),
+        ("file", about.file.map_or(NULL.into(), |path| string(&path.to_string_lossy()))),
+        ("sides", format!("[{}, {}]", about.sides.0, about.sides.1)),
+        ("frame", format!("[{width}, {height}, {cell}, {margin}]")),
         ("refusal", number.to_string()),
+        ("score", of_fit(&|r| r.grade.score().map_or(NULL.into(), float))),
+        ("phase", of_fit(&|r| float(r.phase))),
+        ("doubtful", of_fit(&|r| r.doubtful().to_string())),
         ("patches", of_look(&|w| w.patches().len().to_string())),
         ("waiting", of_look(&|w| w.waiting().to_string())),
         ("candidates", of_look(&candidates)),
@@ -91,11 +122,17 @@ mod tests {
     #[test]
     fn without_a_look_all_but_the_refusal_is_null() {
         let refusal = Refusal::check(1).unwrap_err();
+        let about = About { file: Some(Path::new("a \"b\"\\\n.ppm")), sides: (1280, 720), frame: Frame::BENCH };
+        let version = env!("CARGO_PKG_VERSION");
         assert_eq!(
-            report(None, &Err(refusal)),
-            "{\"refusal\": 1, \"patches\": null, \"waiting\": null, \"candidates\": null, \"corners\": null, \
-             \"matrix\": null, \"k\": null, \"cx\": null, \"cy\": null, \"norm\": null, \"grade\": null, \
-             \"trials\": null, \"homographies\": null}\n"
+            report(&about, None, &Err(refusal)),
+            format!(
+                "{{\"version\": \"{version}\", \"file\": \"a \\\"b\\\"\\\\\\u000a.ppm\", \"sides\": [1280, 720], \
+                 \"frame\": [848, 636, 10, 106], \"refusal\": 1, \"score\": null, \"phase\": null, \"doubtful\": null, \
+                 \"patches\": null, \"waiting\": null, \"candidates\": null, \"corners\": null, \
+                 \"matrix\": null, \"k\": null, \"cx\": null, \"cy\": null, \"norm\": null, \"grade\": null, \
+                 \"trials\": null, \"homographies\": null}}\n"
+            )
         );
     }
 }

@@ -1,20 +1,25 @@
 //! Work areas that are made once and lent to each call.
 
-use crate::ffi;
+use crate::{ffi, phase};
 use crate::{Frame, Refusal};
 
-/// The canonical-to-image map that was kept: a homography, then a lens.
+/// A canonical-to-image map: a homography, then a lens.
 #[derive(Clone, Copy, Debug)]
 pub struct Fit([f64; ffi::FIT_LEN]);
 
 impl Fit {
+    /// Of a matrix by rows and then k, cx, cy, norm: those of a fit that was kept from before.
+    pub fn new(numbers: [f64; ffi::FIT_LEN]) -> Fit {
+        Fit(numbers)
+    }
+
     pub fn numbers(&self) -> &[f64] {
         &self.0
     }
 
     /// Nine entries by rows.
     pub fn matrix(&self) -> &[f64] {
-        &self.0[..9]
+        &self.0[..ffi::MATRIX_LEN]
     }
 
     pub fn k(&self) -> f64 {
@@ -36,8 +41,8 @@ impl Fit {
     /// Where a canonical point lies in the capture.
     pub fn map(&self, x: f64, y: f64) -> [f64; 2] {
         let (mut ideal, mut observed) = ([0.0; 2], [0.0; 2]);
-        ffi::apply(&self.0[..9], x, y, &mut ideal);
-        ffi::distort(&self.0[9..], ideal[0], ideal[1], &mut observed);
+        ffi::apply(&self.0[..ffi::MATRIX_LEN], x, y, &mut ideal);
+        ffi::distort(&self.0[ffi::MATRIX_LEN..], ideal[0], ideal[1], &mut observed);
         observed
     }
 }
@@ -52,15 +57,50 @@ pub enum Grade {
     TooFew,
 }
 
-/// An accepted rectification; the card itself is `Workspace::canonical`.
+impl Grade {
+    /// None where unscored.
+    pub fn score(self) -> Option<f64> {
+        match self {
+            Grade::Score(score) => Some(score),
+            Grade::Outside(_) | Grade::TooFew => None,
+        }
+    }
+}
+
+/// The fit of a capture.
 #[derive(Clone, Copy, Debug)]
-pub struct Rectified {
+pub struct Fitted {
     pub fit: Fit,
     pub grade: Grade,
     /// The corners' patches by their places in the patch list: TL, TR, BR, BL.
     pub corners: [usize; 4],
     pub trials: usize,
     pub homographies: usize,
+}
+
+/// An accepted rectification; the card itself is `Workspace::canonical`.
+#[derive(Clone, Copy, Debug)]
+pub struct Rectified {
+    pub fit: Fit,
+    pub grade: Grade,
+    /// How far the card's edges lie off its cell borders: `phase::phase`.
+    pub phase: f64,
+    /// The corners' patches by their places in the patch list: TL, TR, BR, BL.
+    pub corners: [usize; 4],
+    pub trials: usize,
+    pub homographies: usize,
+}
+
+impl Rectified {
+    /// None where unscored.
+    pub fn score(&self) -> Option<f64> {
+        self.grade.score()
+    }
+
+    /// Whether a person should look at the capture before the card is used: `phase::doubtful`.
+    pub fn doubtful(&self) -> bool {
+        phase::doubtful(self.score(), self.phase)
+    }
 }
 
 /// A patch that passed the ring rule.
@@ -145,9 +185,10 @@ impl Workspace {
         self.frame
     }
 
-    /// Lays a capture flat. On acceptance the card is in `canonical`; on a refusal `canonical` is as it was.
-    pub fn rectify(&mut self, capture: &[u8]) -> Result<Rectified, Refusal> {
-        let mut areas = ffi::Areas {
+    /// The areas of a look, and the cell means, the card, the counts and the fit, each lent.
+    #[allow(clippy::type_complexity)]
+    fn lend(&mut self) -> (ffi::Areas<'_>, &mut [f64], &mut [u8], &mut [u64], &mut [f64]) {
+        let areas = ffi::Areas {
             luma: &mut self.luma,
             integral: &mut self.integral,
             mask: &mut self.mask,
@@ -157,23 +198,17 @@ impl Workspace {
             candidates: &mut self.candidates,
             blob_index: &mut self.blob_index,
         };
-        let number = ffi::rectify(
-            capture,
-            self.w,
-            self.h,
-            self.frame,
-            &mut areas,
-            &mut self.means,
-            &mut self.canonical,
-            &mut self.counts,
-            &mut self.fit,
-        );
+        (areas, &mut self.means, &mut self.canonical, &mut self.counts, &mut self.fit)
+    }
+
+    /// What a call that fits has left in counts and fit, or its refusal.
+    fn fitted(&mut self, number: u32) -> Result<Fitted, Refusal> {
         self.last = Some(number);
         Refusal::check(number)?;
         let count = |i: usize| self.counts[i] as usize;
         let mut fit = [0.0; ffi::FIT_LEN];
         fit.copy_from_slice(&self.fit[..ffi::FIT_LEN]);
-        Ok(Rectified {
+        Ok(Fitted {
             fit: Fit(fit),
             grade: match self.counts[ffi::GRADE] {
                 ffi::SCORED => Grade::Score(self.fit[ffi::FIT_LEN]),
@@ -184,6 +219,41 @@ impl Workspace {
             trials: count(ffi::TRIALS),
             homographies: count(ffi::HOMOGRAPHIES),
         })
+    }
+
+    /// Lays a capture flat. On acceptance the card is in `canonical`; on a refusal `canonical` is as it was.
+    pub fn rectify(&mut self, capture: &[u8]) -> Result<Rectified, Refusal> {
+        let (w, h, frame) = (self.w, self.h, self.frame);
+        let (mut areas, means, canonical, counts, fit) = self.lend();
+        let number = ffi::rectify(capture, w, h, frame, &mut areas, means, canonical, counts, fit);
+        let Fitted { fit, grade, corners, trials, homographies } = self.fitted(number)?;
+        Ok(Rectified { fit, grade, phase: phase::phase(&self.canonical, frame), corners, trials, homographies })
+    }
+
+    /// The fit of a capture alone; `canonical` is as it was.
+    pub fn fit_geometry(&mut self, capture: &[u8]) -> Result<Fitted, Refusal> {
+        let (w, h, frame) = (self.w, self.h, self.frame);
+        let (mut areas, means, _, counts, fit) = self.lend();
+        let number = ffi::fit_geometry(capture, w, h, frame, &mut areas, means, counts, fit);
+        self.fitted(number)
+    }
+
+    /// Lays a capture flat under a known fit, as that of another capture by the same camera from the same place. On acceptance
+    /// the card is in `canonical`. Nothing is looked for: what the last look found stays to be read.
+    pub fn warp_with(&mut self, capture: &[u8], fit: &Fit) -> Result<(), Refusal> {
+        Refusal::check(ffi::warp_with(capture, self.w, self.h, self.frame, fit.numbers(), &mut self.canonical))
+    }
+
+    /// The patches of a mask of the capture's sides, one byte a pixel, any nonzero one dark: in `patches`, and there are no
+    /// candidates then.
+    pub fn label_blobs(&mut self, mask: &[u8]) -> Result<(), Refusal> {
+        let mut found = [0; ffi::LABELLED_LEN];
+        let number = ffi::label_blobs(mask, self.w, self.h, &mut self.seen, &mut self.waiting, &mut self.patches, &mut found);
+        self.last = Some(number);
+        Refusal::check(number)?;
+        self.counts = [0; ffi::COUNTS_LEN];
+        (self.counts[ffi::PATCHES], self.counts[ffi::WAITING]) = (found[0], found[1]);
+        Ok(())
     }
 
     /// The card of the last accepted call, 3·width·height bytes by rows.

@@ -1,83 +1,20 @@
 //! The command as a user runs it.
 
+mod common;
+use common::*;
 use std::fs;
-use std::io::Write;
-use std::path::{Path, PathBuf};
-use std::process::{Command, Output, Stdio};
 
-const FRAME: &str = "192,192,1,48";
-
-/// A folder of its own for each test, removed at its end.
-struct Folder(PathBuf);
-
-impl Folder {
-    fn new(name: &str) -> Folder {
-        let path = std::env::temp_dir().join(format!("flatten-{name}-{}", std::process::id()));
-        fs::create_dir_all(&path).unwrap();
-        Folder(path)
-    }
-
-    fn file(&self, name: &str) -> PathBuf {
-        self.0.join(name)
-    }
-
-    fn names(&self) -> Vec<String> {
-        let mut names: Vec<_> = fs::read_dir(&self.0).unwrap().map(|e| e.unwrap().file_name().into_string().unwrap()).collect();
-        names.sort();
-        names
-    }
-}
-
-impl Drop for Folder {
-    fn drop(&mut self) {
-        let _ = fs::remove_dir_all(&self.0);
-    }
-}
-
-fn flatten(args: &[&str], input: &[u8]) -> Output {
-    let mut child = Command::new(env!("CARGO_BIN_EXE_flatten"))
-        .args(args)
-        .stdin(Stdio::piped())
-        .stdout(Stdio::piped())
-        .stderr(Stdio::piped())
-        .spawn()
-        .unwrap();
-    // A command that refuses early leaves its input unread.
-    let _ = child.stdin.take().unwrap().write_all(input);
-    child.wait_with_output().unwrap()
-}
-
-fn p6(w: usize, h: usize, data: &[u8]) -> Vec<u8> {
-    let mut out = format!("P6\n{w} {h}\n255\n").into_bytes();
-    out.extend(data);
-    out
-}
-
-/// A straight photograph of a card: markers stamped into a chequered picture.
-fn card(frame: flatten::Frame) -> Vec<u8> {
-    let (w, h) = (frame.width, frame.height);
-    let shade = |i: usize| if (i % w / 8 + i / w / 8) % 2 == 0 { 90 } else { 160 };
-    let mut data: Vec<u8> = (0..w * h).flat_map(|i| [shade(i); 3]).collect();
-    assert_eq!(flatten::ffi::stamp_fiducials(&mut data, w, h, frame), 0);
-    data
-}
-
-fn small() -> Vec<u8> {
-    p6(192, 192, &card(FRAME.parse().unwrap()))
-}
-
-fn text(bytes: &[u8]) -> &str {
-    std::str::from_utf8(bytes).unwrap()
-}
-
-fn path(p: &Path) -> &str {
-    p.to_str().unwrap()
+/// What is said of the card of `small`.
+fn said() -> String {
+    let mut ws = flatten::Workspace::new(192, 192, FRAME.parse().unwrap()).unwrap();
+    let r = ws.rectify(&card(FRAME.parse().unwrap())).unwrap();
+    format!("flatten: score {:.1}, phase 0.000\n", r.score().unwrap())
 }
 
 #[test]
 fn a_card_comes_out_flat() {
     let out = flatten(&["--frame", FRAME], &small());
-    assert_eq!((out.status.code(), text(&out.stderr)), (Some(0), ""));
+    assert_eq!((out.status.code(), text(&out.stderr)), (Some(0), said().as_str()));
     let flat = flatten::p6::read(&mut &out.stdout[..]).unwrap();
     assert_eq!((flat.w, flat.h), (192, 192));
     // The card is the capture: it was photographed straight, pixel for pixel, but for what the lens search moves.
@@ -89,37 +26,41 @@ fn a_card_comes_out_flat() {
 #[test]
 fn files_and_the_report() {
     let folder = Folder::new("files");
-    let [input, card, report, overlay] = ["in.ppm", "card.ppm", "report.json", "overlay.ppm"].map(|n| folder.file(n));
-    fs::write(&input, small()).unwrap();
-    let args = ["--frame", FRAME, "-o", path(&card), "--report", path(&report), "--overlay", path(&overlay), path(&input)];
-    let out = flatten(&args, b"");
-    assert_eq!((out.status.code(), text(&out.stdout), text(&out.stderr)), (Some(0), "", ""));
+    folder.put("in.ppm", small());
+    let out = folder.sh("$F --frame 192,192,1,48 -o card.ppm --report report.json --overlay overlay.ppm in.ppm");
+    assert_eq!((out.status.code(), text(&out.stdout), text(&out.stderr)), (Some(0), "", said().as_str()));
     assert_eq!(folder.names(), ["card.ppm", "in.ppm", "overlay.ppm", "report.json"]);
-    assert_eq!(fs::read(&card).unwrap(), flatten(&["--frame", FRAME], &small()).stdout);
-    let json = fs::read_to_string(&report).unwrap();
-    assert!(json.starts_with("{\"refusal\": 0, \"patches\": "), "{json}");
+    assert_eq!(folder.get("card.ppm"), flatten(&["--frame", FRAME], &small()).stdout);
+    let json = folder.text("report.json");
+    let head = concat!(
+        "{\"version\": \"",
+        env!("CARGO_PKG_VERSION"),
+        "\", \"file\": \"in.ppm\", \"sides\": [192, 192], \"frame\": [192, 192, 1, 48], \"refusal\": 0, \"score\": "
+    );
+    assert!(json.starts_with(head), "{json}");
+    assert!(json.contains(", \"phase\": 0.0, \"doubtful\": false, \"patches\": "), "{json}");
     assert!(json.ends_with("\"trials\": 78, \"homographies\": 78}\n"), "{json}");
     assert_eq!(json.matches("\"place\": ").count(), 4);
-    let drawn = flatten::p6::read(&mut &fs::read(&overlay).unwrap()[..]).unwrap();
+    let drawn = flatten::p6::read(&mut &folder.get("overlay.ppm")[..]).unwrap();
     assert_eq!((drawn.w, drawn.h), (192, 192));
-    assert_ne!(drawn.data, self::card(FRAME.parse().unwrap()));
+    assert_ne!(drawn.data, card(FRAME.parse().unwrap()));
 }
 
 #[test]
 fn a_refusal_writes_no_card() {
     let folder = Folder::new("refusal");
-    let [card, report, overlay] = ["card.ppm", "report.json", "overlay.ppm"].map(|n| folder.file(n));
-    fs::write(&card, "as it was").unwrap();
-    let args = ["--frame", FRAME, "-o", path(&card), "--report", path(&report), "--overlay", path(&overlay)];
-    let out = flatten(&args, &p6(64, 64, &[255; 3 * 64 * 64]));
+    folder.put("card.ppm", "as it was");
+    folder.put("in.ppm", p6(64, 64, &[255; 3 * 64 * 64]));
+    let out = folder.sh("$F --frame 192,192,1,48 -o card.ppm --report report.json --overlay overlay.ppm < in.ppm");
     assert_eq!((out.status.code(), text(&out.stdout)), (Some(1), ""));
     assert!(text(&out.stderr).starts_with("refused 7: fewer than four rings were found; photograph again"), "{}", text(&out.stderr));
     assert_eq!(text(&out.stderr).lines().count(), 1);
-    assert_eq!(fs::read_to_string(&card).unwrap(), "as it was");
-    assert_eq!(folder.names(), ["card.ppm", "overlay.ppm", "report.json"]);
+    assert_eq!(folder.text("card.ppm"), "as it was");
+    assert_eq!(folder.names(), ["card.ppm", "in.ppm", "overlay.ppm", "report.json"]);
     assert_eq!(
-        fs::read_to_string(&report).unwrap(),
-        "{\"refusal\": 7, \"patches\": 0, \"waiting\": 0, \"candidates\": [], \"corners\": null, \"matrix\": null, \"k\": null, \
+        folder.text("report.json").split_once("\"file\": ").unwrap().1,
+        "null, \"sides\": [64, 64], \"frame\": [192, 192, 1, 48], \"refusal\": 7, \"score\": null, \"phase\": null, \
+         \"doubtful\": null, \"patches\": 0, \"waiting\": 0, \"candidates\": [], \"corners\": null, \"matrix\": null, \"k\": null, \
          \"cx\": null, \"cy\": null, \"norm\": null, \"grade\": null, \"trials\": null, \"homographies\": null}\n"
     );
 }
@@ -133,7 +74,8 @@ fn a_refusal_before_the_look_has_no_overlay() {
         let out = flatten(&args, &p6(w, 64, &vec![0; 3 * 64 * w]));
         assert_eq!(out.status.code(), Some(1));
         assert!(text(&out.stderr).starts_with(&format!("refused {number}: ")), "{}", text(&out.stderr));
-        assert!(fs::read_to_string(&report).unwrap().starts_with(&format!("{{\"refusal\": {number}, \"patches\": null, ")));
+        let json = fs::read_to_string(&report).unwrap();
+        assert!(json.contains(&format!("\"refusal\": {number}, \"score\": null, ")) && json.contains("\"patches\": null, "), "{json}");
         assert_eq!(folder.names(), ["report.json"]);
     }
 }
@@ -143,8 +85,10 @@ fn too_few_cells_are_warned_of() {
     let frame = "224,224,28,56";
     let out = flatten(&["--frame", frame], &p6(224, 224, &card(frame.parse().unwrap())));
     assert_eq!(out.status.code(), Some(0), "{}", text(&out.stderr));
-    let warning = "flatten: warning: the lens term is not supported by the picture: too few cells (4 are sampled, 16 are needed)\n";
-    assert_eq!(text(&out.stderr), warning);
+    let mut lines = text(&out.stderr).lines();
+    assert!(lines.next().unwrap().starts_with("flatten: no score, phase 0."));
+    let warning = "flatten: warning: the lens term is not supported by the picture: too few cells (4 are sampled, 16 are needed)";
+    assert_eq!(lines.next(), Some(warning));
 }
 
 #[test]
@@ -153,6 +97,7 @@ fn bad_pictures_and_bad_usage_are_status_2() {
         (&[][..], &b"P6\n2 2\n255\n123"[..], "flatten: standard input: the picture is cut off"),
         (&[], b"", "the input is empty"),
         (&[], b"P6\n5000 2\n255\n", "too large"),
+        (&[], b"P6\r\n1 1\r\n255\r\n123", "the header's lines end in CR LF"),
         (&["--nonsense"], b"", "there is no option --nonsense"),
         (&["--frame", "1,2"], b"", "four numbers are wanted"),
         (&["no/such/file"], b"", "flatten: no/such/file: "),
@@ -164,18 +109,39 @@ fn bad_pictures_and_bad_usage_are_status_2() {
     }
 }
 
+/// Half a gigabyte of comment is not read.
 #[test]
-fn a_card_that_cannot_be_written_is_status_2() {
-    let out = flatten(&["--frame", FRAME, "-o", "no/such/folder/card.ppm"], &small());
+fn a_comment_without_end_is_given_up() {
+    let folder = Folder::new("comment");
+    let out = folder.sh("{ printf 'P6\\n#'; head -c 500000000 /dev/zero; } | $F -o card.ppm");
     assert_eq!(out.status.code(), Some(2));
-    assert!(text(&out.stderr).starts_with("flatten: no/such/folder/card.ppm: "), "{}", text(&out.stderr));
+    assert_eq!(text(&out.stderr), "flatten: standard input: a comment in the header has no end within 64 KiB\n");
 }
 
 #[test]
-fn a_device_is_written_straight() {
-    let out = flatten(&["--frame", FRAME, "-o", "/dev/null"], &small());
-    assert_eq!((out.status.code(), text(&out.stderr)), (Some(0), ""));
-    assert!(!fs::metadata("/dev/null").unwrap().is_file());
+fn other_formats_are_told_how_to_be_converted() {
+    let folder = Folder::new("formats");
+    for (name, begin, command) in [
+        ("photo.jpg", &b"\xff\xd8\xff\xe0"[..], "`convert photo.jpg -auto-orient ppm:- > photo.ppm`"),
+        ("photo.jpg", b"\xff\xd8\xff\xe0", "`djpeg -pnm photo.jpg > photo.ppm`"),
+        ("my photo.jpg", b"\xff\xd8\xff\xe1", "`djpeg -pnm 'my photo.jpg' > 'my photo.ppm'`"),
+        ("photo.png", b"\x89PNG\r\n", "`convert photo.png -auto-orient -depth 8 ppm:- > photo.ppm`"),
+        ("photo.png", b"\x89PNG\r\n", "`pngtopnm photo.png > photo.ppm`"),
+        ("grey.pgm", b"P5\n1 1\n255\n1", "`convert grey.pgm -depth 8 ppm:- > grey.ppm`"),
+        ("deep.ppm", b"P6\n1 1\n65535\n123456", "`convert deep.ppm -depth 8 ppm:- > deep.p6.ppm`"),
+        // Not over what is there, itself above all.
+        ("jpeg.ppm", b"\xff\xd8\xff\xe0", "`convert jpeg.ppm -auto-orient ppm:- > jpeg.p6.ppm`"),
+        ("jpeg.jpg", b"\xff\xd8\xff\xe0", "`convert jpeg.jpg -auto-orient ppm:- > jpeg.p6.ppm`"),
+        ("photo.bmp", b"BM", "`convert photo.bmp -auto-orient -depth 8 ppm:- > photo.ppm`"),
+    ] {
+        folder.put(name, begin);
+        let out = folder.sh(&format!("$F -o card.ppm '{name}'"));
+        assert_eq!(out.status.code(), Some(2));
+        assert!(text(&out.stderr).contains(command), "{}", text(&out.stderr));
+        assert!(!text(&out.stderr).contains("pnmtoppm"));
+    }
+    let out = flatten(&[], b"\xff\xd8\xff\xe0");
+    assert!(text(&out.stderr).contains("`convert - -auto-orient ppm:- > photo.ppm`"), "{}", text(&out.stderr));
 }
 
 #[test]
@@ -184,4 +150,16 @@ fn help_and_version() {
     assert!(out.status.success() && text(&out.stdout).starts_with("usage: flatten [OPTIONS] [FILE]\n"));
     let out = flatten(&["--version"], b"");
     assert_eq!(text(&out.stdout), concat!("flatten ", env!("CARGO_PKG_VERSION"), "\n"));
+}
+
+/// The limits of the rule stand once, in `phase`; who prints them prints these.
+#[test]
+fn printed_limits_are_the_rules() {
+    let (score, phase) = (flatten::phase::SCORE_LIMIT, flatten::phase::PHASE_LIMIT);
+    let help = flatten(&["--help"], b"").stdout;
+    assert!(
+        text(&help).contains(&format!("score is below {score} and its phase")) && text(&help).contains(&format!("above {phase} of a cell"))
+    );
+    let readme = fs::read_to_string(concat!(env!("CARGO_MANIFEST_DIR"), "/../../README.md")).unwrap();
+    assert!(readme.contains(&format!("a score below {score} and a phase above {phase} is **doubtful**")));
 }

@@ -1,6 +1,6 @@
 //! The wrapper.
 
-use flatten::{ffi, Frame, Grade, Mender, Workspace};
+use flatten::{ffi, Fit, Frame, Grade, Patch, Refusal, Responsible, Workspace};
 
 const SMALL: Frame = Frame { width: 192, height: 192, cell: 1, margin: 48 };
 
@@ -26,19 +26,65 @@ fn one_workspace_serves_many_captures() {
 
     // A refusal leaves the card of the call before, and shows what it found.
     let refusal = ws.rectify(&vec![255; 3 * 192 * 192]).unwrap_err();
-    assert_eq!((refusal.number(), refusal.mender()), (7, Mender::Photographer));
+    assert_eq!((refusal.number(), refusal.responsible()), (7, Responsible::Photographer));
     assert!(ws.looked() && ws.candidates().len() == 0);
     assert_eq!(ws.canonical(), flat);
 
     // A capture of another length is refused without a look.
     let refusal = ws.rectify(&[0; 10]).unwrap_err();
-    assert_eq!((refusal.number(), refusal.mender()), (2, Mender::Host));
+    assert_eq!((refusal.number(), refusal.responsible()), (2, Responsible::Host));
     assert!(!ws.looked() && ws.patches().len() == 0);
 
     // And the first answer comes again.
     let again = ws.rectify(&card()).unwrap();
     assert_eq!(again.fit.numbers(), first.fit.numbers());
     assert_eq!(ws.canonical(), flat);
+}
+
+/// The fit alone is rectify's, and the card under it is rectify's.
+#[test]
+fn fit_and_warp_apart() {
+    let (mut whole, mut apart) = (Workspace::new(192, 192, SMALL).unwrap(), Workspace::new(192, 192, SMALL).unwrap());
+    let rectified = whole.rectify(&card()).unwrap();
+    let fitted = apart.fit_geometry(&card()).unwrap();
+    assert_eq!(fitted.fit.numbers(), rectified.fit.numbers());
+    assert_eq!((fitted.grade, fitted.corners), (rectified.grade, rectified.corners));
+    assert_eq!((fitted.trials, fitted.homographies), (78, 78));
+    assert_eq!(apart.candidates().len(), 4);
+    assert!(apart.canonical().iter().all(|&b| b == 0));
+
+    // The same numbers, kept as numbers.
+    let fit = Fit::new(fitted.fit.numbers().try_into().unwrap());
+    apart.warp_with(&card(), &fit).unwrap();
+    assert_eq!(apart.canonical(), whole.canonical());
+    assert_eq!(apart.candidates().len(), 4);
+
+    let number = |r: Result<(), Refusal>| r.map_err(Refusal::number);
+    assert_eq!(number(apart.warp_with(&[0; 10], &fit)), Err(2));
+    assert_eq!(apart.fit_geometry(&vec![255; 3 * 192 * 192]).unwrap_err().number(), 7);
+    assert!(apart.looked() && apart.candidates().len() == 0);
+    assert_eq!(apart.canonical(), whole.canonical());
+}
+
+#[test]
+fn patches_of_a_mask() {
+    let mut ws = Workspace::new(5, 4, SMALL).unwrap();
+    #[rustfmt::skip]
+    let mask = [
+        9, 0, 0, 0, 1,
+        9, 9, 0, 1, 0,
+        0, 0, 0, 0, 0,
+        0, 0, 0, 0, 255,
+    ];
+    ws.label_blobs(&mask).unwrap();
+    let found: Vec<Patch> = ws.patches().collect();
+    let one = |x: u64, y: u64| Patch { area: 1, sum_x: x, sum_y: y, x0: x, y0: y, x1: x, y1: y };
+    let three = Patch { area: 3, sum_x: 1, sum_y: 2, x0: 0, y0: 0, x1: 1, y1: 1 };
+    assert_eq!(found, [three, one(4, 0), one(3, 1), one(4, 3)]);
+    assert!(ws.candidates().len() == 0 && (1..=3).contains(&ws.waiting()));
+    // After a refusal there is nothing to read.
+    assert_eq!(ws.label_blobs(&mask[1..]).map_err(Refusal::number), Err(2));
+    assert_eq!(ws.patches().len(), 0);
 }
 
 #[test]
@@ -58,7 +104,7 @@ fn limits() {
 #[test]
 fn refusals_say_what_to_do() {
     let refusal = Workspace::new(1, 1, Frame { cell: 0, ..SMALL }).err().unwrap();
-    assert_eq!(refusal.mender(), Mender::Frame);
+    assert_eq!(refusal.responsible(), Responsible::Frame);
     assert_eq!(
         refusal.to_string(),
         "refused 1: a frame number is outside its limit (sides 1 to 4096, cell 1 to 512, margin 0 to 4096); correct the frame description"

@@ -117,7 +117,7 @@ fn look(case: &Case, img: &RgbImage, marker: f64) -> Look {
             && inner::verify_bullseye(&mask, &luma, w, h, b) >= inner::VERIFY_THRESHOLD
     };
     let places: Vec<usize> = blobs.iter().enumerate().filter(|(_, b)| passes(b)).map(|(i, _)| i).collect();
-    assert_eq!(places.len(), candidates.len(), "the driver's ring rule is not the original's");
+    assert_eq!(places.len(), candidates.len(), "this package's ring rule is not the original's");
     Look {
         integral: integral(&luma, w, h),
         mask: mask.iter().map(|&d| d as u8).collect(),
@@ -227,6 +227,6 @@ pub fn answer(case: &Case) -> Answer {
         a.flat = Some(Flat { fit: numbers(&fit), grade, score, homographies: homographies(&img, &f, &points), canonical });
         0
     };
-    assert_eq!(flat.is_some(), a.number == 0, "the driver's numbers are not the original's");
+    assert_eq!(flat.is_some(), a.number == 0, "this package's numbers are not the original's");
     a
 }

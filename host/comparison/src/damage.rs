@@ -6,9 +6,9 @@ use crate::{kinds, sizes, Case, Memory};
 use flatten::{ffi, Frame};
 use scene::Random;
 
-/// The doors that take lent areas.
+/// The public functions that take lent areas.
 #[derive(Clone, Copy, Debug, PartialEq, Eq, PartialOrd, Ord)]
-pub enum Door {
+pub enum Function {
     Rectify,
     FitGeometry,
     DetectFiducials,
@@ -23,29 +23,29 @@ pub enum Door {
     Bilinear,
 }
 
-const DOORS: &[Door] = &[
-    Door::Rectify,
-    Door::Rectify,
-    Door::Rectify,
-    Door::Rectify,
-    Door::Rectify,
-    Door::FitGeometry,
-    Door::DetectFiducials,
-    Door::FiducialCandidates,
-    Door::LabelBlobs,
-    Door::GridScore,
-    Door::WarpWith,
-    Door::StampFiducials,
-    Door::MarkerCenters,
-    Door::FitFor,
-    Door::Lengths,
-    Door::Bilinear,
+const FUNCTIONS: &[Function] = &[
+    Function::Rectify,
+    Function::Rectify,
+    Function::Rectify,
+    Function::Rectify,
+    Function::Rectify,
+    Function::FitGeometry,
+    Function::DetectFiducials,
+    Function::FiducialCandidates,
+    Function::LabelBlobs,
+    Function::GridScore,
+    Function::WarpWith,
+    Function::StampFiducials,
+    Function::MarkerCenters,
+    Function::FitFor,
+    Function::Lengths,
+    Function::Bilinear,
 ];
 
 /// All that a call is handed.
 #[derive(Clone)]
 struct Call {
-    door: Door,
+    function: Function,
     case: Case,
     memory: Memory,
     counts: Vec<u64>,
@@ -93,8 +93,8 @@ fn lowest(c: &Call, seen: u32) -> u32 {
     let capture_bad = sides_bad || case.data.len() != 3 * case.w * case.h;
     if frame_bad || sides_bad {
         // Sizes can only be worked out inside the limits.
-        let frame_counts = !matches!(c.door, Door::LabelBlobs | Door::Bilinear);
-        let sides_count = c.door != Door::MarkerCenters;
+        let frame_counts = !matches!(c.function, Function::LabelBlobs | Function::Bilinear);
+        let sides_count = c.function != Function::MarkerCenters;
         if frame_bad && frame_counts {
             return 1;
         }
@@ -118,8 +118,8 @@ fn lowest(c: &Call, seen: u32) -> u32 {
     let card_wrong = m.canonical.len() != s.canonical;
     let tiny = case.w < 32 || case.h < 32;
     let (counts, numbers, given) = (c.counts.len(), c.numbers.len(), c.given.len());
-    let tests: &[(u32, bool)] = &match c.door {
-        Door::Rectify => vec![
+    let tests: &[(u32, bool)] = &match c.function {
+        Function::Rectify => vec![
             (2, capture_bad),
             (3, look_short || means_short || counts < 11 || numbers < 14),
             (4, card_wrong),
@@ -127,7 +127,7 @@ fn lowest(c: &Call, seen: u32) -> u32 {
             (6, tiny),
             (seen, seen >= 7),
         ],
-        Door::FitGeometry => {
+        Function::FitGeometry => {
             vec![
                 (2, capture_bad),
                 (3, look_short || means_short || counts < 11 || numbers < 14),
@@ -136,22 +136,22 @@ fn lowest(c: &Call, seen: u32) -> u32 {
                 (seen, seen >= 7),
             ]
         }
-        Door::DetectFiducials => {
+        Function::DetectFiducials => {
             vec![(2, capture_bad), (3, look_short || counts < 7 || numbers < 8), (5, no_layout), (6, tiny), (seen, (7..10).contains(&seen))]
         }
-        Door::FiducialCandidates => vec![(2, capture_bad), (3, look_short || counts < 3), (5, no_layout), (6, tiny)],
-        Door::LabelBlobs => vec![
+        Function::FiducialCandidates => vec![(2, capture_bad), (3, look_short || counts < 3), (5, no_layout), (6, tiny)],
+        Function::LabelBlobs => vec![
             (2, m.mask.len() != s.pixels),
             (3, m.seen.len() < s.pixels || m.waiting.len() < s.pixels || m.patches.len() < 7 * s.patches || counts < 2),
         ],
-        Door::GridScore => vec![(2, capture_bad), (3, given < 13 || means_short || counts < 2 || numbers < 1)],
-        Door::WarpWith => vec![(2, capture_bad), (3, given < 13), (4, card_wrong)],
-        Door::StampFiducials => vec![(2, capture_bad), (5, no_layout)],
-        Door::MarkerCenters => vec![(3, numbers < 8), (5, no_layout)],
+        Function::GridScore => vec![(2, capture_bad), (3, given < 13 || means_short || counts < 2 || numbers < 1)],
+        Function::WarpWith => vec![(2, capture_bad), (3, given < 13), (4, card_wrong)],
+        Function::StampFiducials => vec![(2, capture_bad), (5, no_layout)],
+        Function::MarkerCenters => vec![(3, numbers < 8), (5, no_layout)],
         // The points of FitFor are never degenerate here.
-        Door::FitFor => vec![(3, given < 8 || numbers < 13), (5, no_layout)],
-        Door::Lengths => vec![(3, counts < 11)],
-        Door::Bilinear => vec![(2, capture_bad), (3, c.colour.len() < 3)],
+        Function::FitFor => vec![(3, given < 8 || numbers < 13), (5, no_layout)],
+        Function::Lengths => vec![(3, counts < 11)],
+        Function::Bilinear => vec![(2, capture_bad), (3, c.colour.len() < 3)],
     };
     tests.iter().filter(|(_, holds)| *holds).map(|(n, _)| *n).min().unwrap_or(0)
 }
@@ -160,19 +160,19 @@ fn run(c: &mut Call) -> u32 {
     let (w, h, f) = (c.case.w, c.case.h, c.case.frame);
     let capture = &mut c.case.data;
     let (mut areas, means, canonical) = c.memory.lend();
-    match c.door {
-        Door::Rectify => ffi::rectify(capture, w, h, f, &mut areas, means, canonical, &mut c.counts, &mut c.numbers),
-        Door::FitGeometry => ffi::fit_geometry(capture, w, h, f, &mut areas, means, &mut c.counts, &mut c.numbers),
-        Door::DetectFiducials => ffi::detect_fiducials(capture, w, h, f, &mut areas, &mut c.counts, &mut c.numbers),
-        Door::FiducialCandidates => ffi::fiducial_candidates(capture, w, h, f, &mut areas, &mut c.counts),
-        Door::LabelBlobs => ffi::label_blobs(areas.mask, w, h, areas.seen, areas.waiting, areas.patches, &mut c.counts),
-        Door::GridScore => ffi::grid_score(capture, w, h, f, &c.given, means, &mut c.counts, &mut c.numbers),
-        Door::WarpWith => ffi::warp_with(capture, w, h, f, &c.given, canonical),
-        Door::StampFiducials => ffi::stamp_fiducials(capture, w, h, f),
-        Door::MarkerCenters => ffi::marker_centers(f, &mut c.numbers),
-        Door::FitFor => ffi::fit_for(w, h, f, &c.given, 0.01, &mut c.numbers),
-        Door::Lengths => ffi::lengths(w, h, f, &mut c.counts),
-        Door::Bilinear => ffi::bilinear(capture, w, h, 1.25, 0.75, &mut c.colour),
+    match c.function {
+        Function::Rectify => ffi::rectify(capture, w, h, f, &mut areas, means, canonical, &mut c.counts, &mut c.numbers),
+        Function::FitGeometry => ffi::fit_geometry(capture, w, h, f, &mut areas, means, &mut c.counts, &mut c.numbers),
+        Function::DetectFiducials => ffi::detect_fiducials(capture, w, h, f, &mut areas, &mut c.counts, &mut c.numbers),
+        Function::FiducialCandidates => ffi::fiducial_candidates(capture, w, h, f, &mut areas, &mut c.counts),
+        Function::LabelBlobs => ffi::label_blobs(areas.mask, w, h, areas.seen, areas.waiting, areas.patches, &mut c.counts),
+        Function::GridScore => ffi::grid_score(capture, w, h, f, &c.given, means, &mut c.counts, &mut c.numbers),
+        Function::WarpWith => ffi::warp_with(capture, w, h, f, &c.given, canonical),
+        Function::StampFiducials => ffi::stamp_fiducials(capture, w, h, f),
+        Function::MarkerCenters => ffi::marker_centers(f, &mut c.numbers),
+        Function::FitFor => ffi::fit_for(w, h, f, &c.given, 0.01, &mut c.numbers),
+        Function::Lengths => ffi::lengths(w, h, f, &mut c.counts),
+        Function::Bilinear => ffi::bilinear(capture, w, h, 1.25, 0.75, &mut c.colour),
     }
 }
 
@@ -210,7 +210,7 @@ fn call(r: &mut Random, pool: &Pool) -> (Call, u32) {
     let (case, number) = &pool.0[r.below(pool.0.len())];
     let (mut case, mut number) = (case.clone(), *number);
     let wrong = r.one_of(&[0.0, 0.0, 0.05, 0.05, 0.3]);
-    let door = r.one_of(DOORS);
+    let function = r.one_of(FUNCTIONS);
     let true_case = case.clone();
     let far = [0, 4097, 5000, usize::MAX, usize::MAX / 2 + 1, 1 << 32];
     if r.chance(wrong) {
@@ -241,7 +241,7 @@ fn call(r: &mut Random, pool: &Pool) -> (Call, u32) {
     } else {
         sizes(true_case.w, true_case.h, true_case.frame)
     };
-    let mask_len = if door == Door::LabelBlobs { exact(r, s.pixels, wrong) } else { length(r, s.pixels, wrong) };
+    let mask_len = if function == Function::LabelBlobs { exact(r, s.pixels, wrong) } else { length(r, s.pixels, wrong) };
     let memory = Memory {
         luma: vec![0.0; length(r, s.pixels, wrong)],
         integral: vec![0.0; length(r, s.integral, wrong)],
@@ -254,28 +254,28 @@ fn call(r: &mut Random, pool: &Pool) -> (Call, u32) {
         means: vec![0.0; length(r, s.means, wrong)],
         canonical: vec![0; exact(r, s.canonical, wrong)],
     };
-    let counts_len = match door {
-        Door::Rectify | Door::FitGeometry | Door::Lengths => 11,
-        Door::DetectFiducials => 7,
-        Door::FiducialCandidates => 3,
-        Door::LabelBlobs | Door::GridScore => 2,
+    let counts_len = match function {
+        Function::Rectify | Function::FitGeometry | Function::Lengths => 11,
+        Function::DetectFiducials => 7,
+        Function::FiducialCandidates => 3,
+        Function::LabelBlobs | Function::GridScore => 2,
         _ => 0,
     };
-    let numbers_len = match door {
-        Door::Rectify | Door::FitGeometry => 14,
-        Door::FitFor => 13,
-        Door::DetectFiducials | Door::MarkerCenters => 8,
-        Door::GridScore => 1,
+    let numbers_len = match function {
+        Function::Rectify | Function::FitGeometry => 14,
+        Function::FitFor => 13,
+        Function::DetectFiducials | Function::MarkerCenters => 8,
+        Function::GridScore => 1,
         _ => 0,
     };
-    let mut given = match door {
-        Door::FitFor => vec![10.0, 11.0, 80.0, 12.0, 83.0, 90.0, 9.0, 85.0],
+    let mut given = match function {
+        Function::FitFor => vec![10.0, 11.0, 80.0, 12.0, 83.0, 90.0, 9.0, 85.0],
         _ => vec![0.5, 0.01, 3.0, -0.01, 0.5, 4.0, 1e-4, -1e-4, 1.0, r.within(-0.2, 0.2), 50.0, 50.0, 70.0],
     };
     let given_len = length(r, given.len(), wrong);
     given.resize(given_len, 0.25);
     let c = Call {
-        door,
+        function,
         memory,
         counts: vec![0; length(r, counts_len, wrong)],
         numbers: vec![0.0; length(r, numbers_len, wrong)],
@@ -285,7 +285,7 @@ fn call(r: &mut Random, pool: &Pool) -> (Call, u32) {
     };
     // A call that passes 1 to 6 has the original's answer to what it is now handed.
     let same = c.case.frame == true_case.frame && (c.case.w, c.case.h) == (true_case.w, true_case.h) && c.case.data == true_case.data;
-    if !same && lowest(&c, 0) == 0 && matches!(door, Door::Rectify | Door::FitGeometry | Door::DetectFiducials) {
+    if !same && lowest(&c, 0) == 0 && matches!(function, Function::Rectify | Function::FitGeometry | Function::DetectFiducials) {
         number = original::answer(&c.case).number;
     }
     (c, number)
@@ -321,18 +321,18 @@ fn garbage(c: &mut Call, r: &mut Random) {
     c.counts.iter_mut().for_each(|v| *v = r.bits());
     c.numbers.iter_mut().for_each(|v| *v = f64::from_bits(r.bits()));
     c.colour.iter_mut().for_each(|v| *v = r.bits() as u8);
-    if c.door != Door::LabelBlobs {
+    if c.function != Function::LabelBlobs {
         c.memory.mask.iter_mut().for_each(|v| *v = r.bits() as u8);
     }
 }
 
-/// What a door may write: each area's written entries, from 0. All else stays.
+/// What a function may write: each area's written entries, from 0. All else stays.
 fn written(c: &Call, number: u32) -> (Written, [usize; 3], usize) {
     let nothing = Written { pixels: 0, integral: 0, patches: 0, candidates: 0, means: 0 };
     if (1..=6).contains(&number) {
         return (nothing, [0; 3], 0);
     }
-    // A door that is not handed the frame, or the sides, can accept where they are outside their limits.
+    // A function that is not handed the frame, or the sides, can accept where they are outside their limits.
     let f = if frame_outside(c.case.frame) { Frame::BENCH } else { c.case.frame };
     let s = if side(c.case.w) && side(c.case.h) { sizes(c.case.w, c.case.h, f) } else { sizes(1, 1, f) };
     let listed = |i: usize| c.counts[i] as usize;
@@ -344,19 +344,19 @@ fn written(c: &Call, number: u32) -> (Written, [usize; 3], usize) {
         means,
     };
     let accepted = |n: usize| if number == 0 { n } else { 0 };
-    match c.door {
-        Door::Rectify => (look(s.means), [11, accepted(14), 0], accepted(s.canonical)),
-        Door::FitGeometry => (look(s.means), [11, accepted(14), 0], 0),
-        Door::DetectFiducials => (look(0), [7, accepted(8), 0], 0),
-        Door::FiducialCandidates => (look(0), [3, 0, 0], 0),
-        Door::LabelBlobs => (Written { pixels: s.pixels, patches: 7 * listed(0), ..nothing }, [2, 0, 0], 0),
-        Door::GridScore => (Written { means: s.means, ..nothing }, [2, 1, 0], 0),
-        Door::WarpWith => (nothing, [0; 3], s.canonical),
-        Door::MarkerCenters => (nothing, [0, accepted(8), 0], 0),
-        Door::FitFor => (nothing, [0, accepted(13), 0], 0),
-        Door::Lengths => (nothing, [11, 0, 0], 0),
-        Door::Bilinear => (nothing, [0, 0, 3], 0),
-        Door::StampFiducials => (nothing, [0; 3], 0),
+    match c.function {
+        Function::Rectify => (look(s.means), [11, accepted(14), 0], accepted(s.canonical)),
+        Function::FitGeometry => (look(s.means), [11, accepted(14), 0], 0),
+        Function::DetectFiducials => (look(0), [7, accepted(8), 0], 0),
+        Function::FiducialCandidates => (look(0), [3, 0, 0], 0),
+        Function::LabelBlobs => (Written { pixels: s.pixels, patches: 7 * listed(0), ..nothing }, [2, 0, 0], 0),
+        Function::GridScore => (Written { means: s.means, ..nothing }, [2, 1, 0], 0),
+        Function::WarpWith => (nothing, [0; 3], s.canonical),
+        Function::MarkerCenters => (nothing, [0, accepted(8), 0], 0),
+        Function::FitFor => (nothing, [0, accepted(13), 0], 0),
+        Function::Lengths => (nothing, [11, 0, 0], 0),
+        Function::Bilinear => (nothing, [0, 0, 3], 0),
+        Function::StampFiducials => (nothing, [0; 3], 0),
     }
 }
 
@@ -370,7 +370,7 @@ fn kept<T: Copy, B: PartialEq>(what: &str, before: &[T], after: &[T], from: usiz
 fn untouched(before: &Call, after: &Call, number: u32) -> Result<(), String> {
     let (w, [counts, numbers, colour], canonical) = written(after, number);
     let (a, b) = (&before.memory, &after.memory);
-    let labels = before.door == Door::LabelBlobs;
+    let labels = before.function == Function::LabelBlobs;
     let planes = |n: usize| if labels { 0 } else { n };
     kept("luma", &a.luma, &b.luma, planes(w.pixels), f32::to_bits)?;
     kept("integral", &a.integral, &b.integral, w.integral, f64::to_bits)?;
@@ -385,7 +385,7 @@ fn untouched(before: &Call, after: &Call, number: u32) -> Result<(), String> {
     kept("counts", &before.counts, &after.counts, counts, |v| v)?;
     kept("numbers", &before.numbers, &after.numbers, numbers, f64::to_bits)?;
     kept("colour", &before.colour, &after.colour, colour, |v| v)?;
-    let stamped = before.door == Door::StampFiducials && number == 0;
+    let stamped = before.function == Function::StampFiducials && number == 0;
     kept("capture", &before.case.data, &after.case.data, if stamped { before.case.data.len() } else { 0 }, |v| v)
 }
 
@@ -401,7 +401,7 @@ fn agree(x: &Call, y: &Call, number: u32) -> Result<(), String> {
     let (w, [counts, numbers, colour], canonical) = written(x, number);
     agreed("counts", &x.counts, &y.counts, counts, |v| v)?;
     let (a, b) = (&x.memory, &y.memory);
-    let planes = if x.door == Door::LabelBlobs { 0 } else { w.pixels };
+    let planes = if x.function == Function::LabelBlobs { 0 } else { w.pixels };
     agreed("luma", &a.luma, &b.luma, planes, f32::to_bits)?;
     agreed("integral", &a.integral, &b.integral, w.integral, f64::to_bits)?;
     agreed("mask", &a.mask, &b.mask, planes, |v| v)?;
@@ -415,11 +415,11 @@ fn agree(x: &Call, y: &Call, number: u32) -> Result<(), String> {
     agreed("capture", &x.case.data, &y.case.data, x.case.data.len(), |v| v)
 }
 
-/// One call, by its seed: the door and the number that came, or what is wrong.
-pub fn check(pool: &Pool, seed: u64) -> (Door, Result<u32, String>) {
+/// One call, by its seed: the function and the number that came, or what is wrong.
+pub fn check(pool: &Pool, seed: u64) -> (Function, Result<u32, String>) {
     let mut r = Random::new(seed);
     let (mut first, seen) = call(&mut r, pool);
-    if first.door == Door::LabelBlobs {
+    if first.function == Function::LabelBlobs {
         let density = r.within(0.0, 1.0);
         first.memory.mask.iter_mut().for_each(|v| *v = if r.chance(density) { r.bits() as u8 } else { 0 });
     }
@@ -441,7 +441,7 @@ pub fn check(pool: &Pool, seed: u64) -> (Door, Result<u32, String>) {
             untouched(&before, c, *number)?;
         }
         agree(&first, &second, wanted)?;
-        if first.door == Door::Lengths && wanted == 0 {
+        if first.function == Function::Lengths && wanted == 0 {
             let s = sizes(first.case.w, first.case.h, first.case.frame);
             let n = s.pixels;
             let all = [3 * n, n, s.integral, n, n, n, 7 * s.patches, 4 * s.candidates, s.candidates, s.means, s.canonical];
@@ -451,5 +451,5 @@ pub fn check(pool: &Pool, seed: u64) -> (Door, Result<u32, String>) {
         }
         Ok(wanted)
     })();
-    (first.door, result)
+    (first.function, result)
 }

@@ -57,7 +57,7 @@ fn fitted(counts: &[u64], fit: &[f64], c: &Case, a: &Answer) -> Result<(), Strin
     eq("homographies", counts[ffi::HOMOGRAPHIES] as usize, flat.homographies)
 }
 
-/// Runs every door that takes a capture on both sides, and gives the refusal number.
+/// Runs every public function that takes a capture on both sides, and gives the refusal number.
 pub fn check(c: &Case) -> Result<u32, String> {
     let a = o::answer(c);
     let mut m = Memory::new(c.w, c.h, c.frame);

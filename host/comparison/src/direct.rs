@@ -8,9 +8,9 @@ use lpcore::image::RgbImage;
 use scene::Random;
 
 /// Name, how many calls for each thousand point sets, and the words of a call.
-type Door = (&'static str, usize, fn(&mut Random) -> Vec<u64>);
+type Function = (&'static str, usize, fn(&mut Random) -> Vec<u64>);
 
-pub const DOORS: &[Door] = &[
+pub const FUNCTIONS: &[Function] = &[
     ("from_points", 1000, |r| numbers(r, 16)),
     ("inverse", 300, |r| numbers(r, 9)),
     ("mat3_mul", 100, |r| numbers(r, 18)),

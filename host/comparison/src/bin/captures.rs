@@ -25,8 +25,8 @@
 //! Numbers are decimal; a float is its 64 bits as sixteen hexadecimal digits, lower case, every NaN as 7ff8000000000000. A SUM
 //! begins as 0 and becomes (SUM · 65599 + number + 1) mod 4294967291 with each byte or number.
 
-use driver::original::{self, Grade};
-use driver::{bits, kinds, Case};
+use comparison::original::{self, Grade};
+use comparison::{bits, kinds, Case};
 use scene::{Card, Cells, Grating, Random, Scene};
 use std::fmt::Write;
 use std::fs;

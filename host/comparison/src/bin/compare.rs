@@ -3,7 +3,7 @@
 //! compare replay FILE: once more what a file of an earlier difference holds.
 //! Exit status 0 without a difference, 1 with one, 2 bad usage.
 
-use driver::{captures, damage, direct, kinds, Case};
+use comparison::{captures, damage, direct, kinds, Case};
 use scene::Random;
 use std::collections::BTreeMap;
 use std::fs;
@@ -73,7 +73,7 @@ fn call_text(name: &str, words: &[u64]) -> String {
 
 fn run_direct(seed: u64, count: usize) {
     println!("| function | calls compared |\n|---|---|");
-    for (name, share, make) in direct::DOORS {
+    for (name, share, make) in direct::FUNCTIONS {
         let mut r = Random::new(scene::mix(seed ^ name.bytes().fold(0, |s, b| s * 31 + b as u64)));
         let calls = (count * share / 1000).max(1);
         for _ in 0..calls {
@@ -89,13 +89,13 @@ fn run_direct(seed: u64, count: usize) {
 
 fn run_damage(seed: u64, count: usize) {
     let pool = damage::Pool::new(seed);
-    let mut table: BTreeMap<damage::Door, BTreeMap<u32, usize>> = BTreeMap::new();
+    let mut table: BTreeMap<damage::Function, BTreeMap<u32, usize>> = BTreeMap::new();
     for i in 0..count {
         let s = scene::mix(seed.wrapping_add(i as u64));
-        let (door, result) = damage::check(&pool, s);
+        let (function, result) = damage::check(&pool, s);
         match result {
-            Ok(number) => *table.entry(door).or_default().entry(number).or_default() += 1,
-            Err(e) => differ(format!("damaged call of {door:?}: {e}"), "difference.txt", call_text("damage", &[seed, s]).as_bytes()),
+            Ok(number) => *table.entry(function).or_default().entry(number).or_default() += 1,
+            Err(e) => differ(format!("damaged call of {function:?}: {e}"), "difference.txt", call_text("damage", &[seed, s]).as_bytes()),
         }
         if i % 10000 == 9999 {
             eprintln!("compare: {} of {count} damaged calls", i + 1);
@@ -103,11 +103,11 @@ fn run_damage(seed: u64, count: usize) {
     }
     println!("| damaged calls of | calls | by number |\n|---|---|---|");
     let mut sum = 0;
-    for (door, numbers) in &table {
+    for (function, numbers) in &table {
         let all: usize = numbers.values().sum();
         sum += all;
         let each: Vec<String> = numbers.iter().map(|(n, c)| format!("{n}: {c}")).collect();
-        println!("| {door:?} | {all} | {} |", each.join(", "));
+        println!("| {function:?} | {all} | {} |", each.join(", "));
     }
     println!("| all | {sum} | |\n");
 }
@@ -126,8 +126,8 @@ fn replay(path: &str) -> Result<(), String> {
     let name = parts.next().ok_or(format!("{path} is empty"))?;
     let words: Vec<u64> = parts.map(|w| u64::from_str_radix(w, 16).map_err(|e| format!("{path}: {w}: {e}"))).collect::<Result<_, _>>()?;
     if name == "damage" && words.len() == 2 {
-        let (door, result) = damage::check(&damage::Pool::new(words[0]), words[1]);
-        return result.map(|number| println!("no difference: {door:?} gives {number}"));
+        let (function, result) = damage::check(&damage::Pool::new(words[0]), words[1]);
+        return result.map(|number| println!("no difference: {function:?} gives {number}"));
     }
     direct::check(name, &words).map(|()| println!("no difference in {name}"))
 }

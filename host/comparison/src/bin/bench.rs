@@ -1,14 +1,15 @@
 //! bench [RUNS]: the library and the original on the same pictures, thread CPU time in milliseconds.
 //!
 //! First the bench picture, a row a phase; each figure is the median of RUNS runs (default 21) and, beside it, the least. A phase
-//! inside a door is the difference of two doors, on both sides: planes and ring rule is fiducial_candidates without label_blobs,
-//! lens search is fit_geometry without detect_fiducials. Areas are warm: lent again for each run. The row `areas made anew` lends
-//! fresh ones each time, as the original makes its own. The ratio, the row's last number, is that of the medians.
+//! inside a function is the difference of two public functions, on both sides: planes and ring rule is fiducial_candidates
+//! without label_blobs, lens search is fit_geometry without detect_fiducials. Areas are warm: lent again for each run. The row
+//! `areas made anew` lends fresh ones each time, as the original makes its own. The ratio, the row's last number, is that of the
+//! medians.
 //! Then cost against size, and against the number of patches.
 
-use driver::clock::cpu_ms;
-use driver::original::{image, numbers, spec};
-use driver::{kinds, Case, Memory};
+use comparison::clock::cpu_ms;
+use comparison::original::{image, numbers, spec};
+use comparison::{kinds, Case, Memory};
 use flatten::ffi;
 use lpcore::geometry as g;
 use lpcorepub::geometry as inner;

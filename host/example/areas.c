@@ -1,0 +1,67 @@
+/* The functions over struct tablet_areas answer as the plain ones do, and stay inside their block. Run by host/test. */
+#include <assert.h>
+#include <stdio.h>
+#include <stdlib.h>
+#include <string.h>
+
+#include "tablet.h"
+
+#define FRAME 192, 192, 1, 48
+
+enum { SIDE = 192, GUARD = 64 };
+
+static uint8_t photo[3 * SIDE * SIDE];
+
+/* Areas over a block whose last bytes are a guard. */
+static uint8_t *lent(struct tablet_areas *a, const uint64_t *lengths)
+{
+    size_t size = tablet_areas_size(lengths);
+    uint8_t *block = malloc(size + GUARD);
+    assert(block != NULL);
+    memset(block, 0xa5, size + GUARD);
+    memset(a, 0, sizeof *a);
+    assert(tablet_areas_lend(a, lengths, block) == 1);
+    assert((uint8_t *)a->integral == block && a->canonical + a->canonical_len == block + size);
+    a->capture = photo;
+    a->capture_len = sizeof photo;
+    return block;
+}
+
+static void guarded(const uint8_t *block, const uint64_t *lengths)
+{
+    for (size_t i = 0; i < GUARD; i++) assert(block[tablet_areas_size(lengths) + i] == 0xa5);
+}
+
+int main(void)
+{
+    uint64_t lengths[TABLET_LENGTHS_LEN];
+    struct tablet_areas a, b;
+    assert(tablet_lengths(SIDE, SIDE, FRAME, lengths, TABLET_LENGTHS_LEN) == 0);
+    memset(photo, 255, sizeof photo);
+    for (size_t i = 0; i < SIDE * SIDE; i++) memset(photo + 3 * i, (i % SIDE / 8 + i / SIDE / 8) % 2 ? 90 : 160, 3);
+    assert(tablet_stamp_fiducials(photo, sizeof photo, SIDE, SIDE, FRAME) == 0);
+    assert(tablet_areas_lend(&a, lengths, NULL) == 0);
+
+    uint8_t *first = lent(&a, lengths), *second = lent(&b, lengths);
+    assert(tablet_areas_look(&a, SIDE, SIDE, FRAME) == 0);
+    assert(a.counts[TABLET_CANDIDATES] == 4 && a.counts[TABLET_PATCHES] >= 4);
+    assert(tablet_areas_fit(&a, SIDE, SIDE, FRAME) == 0);
+    assert(tablet_areas_rectify(&b, SIDE, SIDE, FRAME) == 0);
+    assert(memcmp(a.fit, b.fit, sizeof a.fit) == 0 && memcmp(a.counts, b.counts, sizeof a.counts) == 0);
+    assert(b.fit[TABLET_SCORE] > 0.0 && b.counts[TABLET_GRADE] == TABLET_SCORED);
+    assert(a.canonical[0] == 0xa5 && b.canonical[0] != 0xa5);
+    assert(memcmp(a.candidates, b.candidates, 4 * TABLET_CANDIDATE_LEN * sizeof *a.candidates) == 0);
+    guarded(first, lengths), guarded(second, lengths);
+
+    /* The card again, by the plain function and the fit. */
+    static uint8_t card[3 * SIDE * SIDE];
+    assert(tablet_warp_with(photo, sizeof photo, SIDE, SIDE, FRAME, a.fit, TABLET_FIT_LEN, card, sizeof card) == 0);
+    assert(memcmp(card, b.canonical, sizeof card) == 0);
+
+    /* A refusal's number comes through. */
+    a.capture_len = 1;
+    assert(tablet_areas_look(&a, SIDE, SIDE, FRAME) == 2 && tablet_areas_fit(&a, SIDE, SIDE, FRAME) == 2);
+    assert(tablet_areas_rectify(&a, SIDE, SIDE, FRAME) == 2);
+    free(first), free(second);
+    return puts("areas agree") < 0;
+}
