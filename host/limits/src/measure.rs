@@ -1,7 +1,7 @@
 //! One capture laid flat, against what was drawn.
 
 use flatten::phase::{doubtful, phase};
-use flatten::{Fit, Frame, Grade, Workspace};
+use flatten::{Fit, Frame, Grade, Rectified, Workspace};
 use scene::{Cells, Rgb, Scene};
 
 /// What came of a capture.
@@ -18,6 +18,10 @@ pub struct Laid {
     /// None where the fit is unscored.
     pub score: Option<f64>,
     pub phase: f64,
+    /// The least correlation of the card with a ring's pattern at a marker's place.
+    pub ring_pattern: f64,
+    /// The greatest difference of a named ring's size from what the fit makes of its marker, as a share of that.
+    pub ring_size: f64,
     /// The greatest error of a cell's place, in canonical pixels.
     pub error: f64,
     /// Half a cell, in canonical pixels.
@@ -63,6 +67,8 @@ pub fn measure(scene: &Scene, photograph: &[u8]) -> Outcome {
             _ => None,
         },
         phase: phase(card, frame(f)),
+        ring_pattern: markers(f).into_iter().map(|m| pattern_at(card, f, m)).fold(1.0, f64::min),
+        ring_size: size_off(&workspace, &found, f),
         error: greatest_error(scene, &found.fit),
         half_cell: f.cell as f64 / 2.0,
         cells: f.cols() * f.rows(),
@@ -87,6 +93,64 @@ fn greatest_error(scene: &Scene, fit: &Fit) -> f64 {
         }
     }
     greatest
+}
+
+/// A marker's square in canonical pixels.
+#[derive(Clone, Copy)]
+struct Marker {
+    x: usize,
+    y: usize,
+    side: usize,
+}
+
+/// TL, TR, BR, BL.
+fn markers(f: scene::Frame) -> [Marker; 4] {
+    let (near, side) = (f.quiet(), f.margin - 2 * f.quiet());
+    let (far_x, far_y) = (f.width - near - side, f.height - near - side);
+    [(near, near), (far_x, near), (far_x, far_y), (near, far_y)].map(|(x, y)| Marker { x, y, side })
+}
+
+/// The correlation of the card's luma with a ring's pattern, over the marker and its quiet zone; 0 where the card is of one luma.
+fn pattern_at(card: &[u8], f: scene::Frame, m: Marker) -> f64 {
+    let quiet = f.quiet();
+    let half = m.side as f64 / 2.0;
+    let mut pairs = Vec::new();
+    for y in m.y - quiet..m.y + m.side + quiet {
+        for x in m.x - quiet..m.x + m.side + quiet {
+            let away = |v: usize, start: usize| (v as f64 + 0.5 - start as f64 - half).abs();
+            let unit = away(x, m.x).max(away(y, m.y)) / m.side as f64 * 6.0;
+            let light = if (1.0..2.0).contains(&unit) || unit >= 3.0 { 1.0 } else { 0.0 };
+            let p = &card[3 * (y * f.width + x)..];
+            pairs.push((light, 0.299 * p[0] as f64 + 0.587 * p[1] as f64 + 0.114 * p[2] as f64));
+        }
+    }
+    correlation(&pairs)
+}
+
+fn correlation(pairs: &[(f64, f64)]) -> f64 {
+    let n = pairs.len() as f64;
+    let mean = |of: fn(&(f64, f64)) -> f64| pairs.iter().map(of).sum::<f64>() / n;
+    let (a, b) = (mean(|p| p.0), mean(|p| p.1));
+    let sum = |of: &dyn Fn(&(f64, f64)) -> f64| pairs.iter().map(of).sum::<f64>();
+    let both = sum(&|p| (p.0 - a) * (p.1 - b));
+    let spread = (sum(&|p| (p.0 - a).powi(2)) * sum(&|p| (p.1 - b).powi(2))).sqrt();
+    if spread > 0.0 {
+        both / spread
+    } else {
+        0.0
+    }
+}
+
+/// A candidate's size is half the sum of its box's sides; the fit's is that of the box around the marker's four corners.
+fn size_off(workspace: &Workspace, found: &Rectified, f: scene::Frame) -> f64 {
+    let off = |(place, m): (usize, Marker)| {
+        let size = workspace.candidates().find(|c| c.place == place).map_or(f64::INFINITY, |c| c.size);
+        let (x, y, side) = (m.x as f64, m.y as f64, m.side as f64);
+        let at = [(x, y), (x + side, y), (x + side, y + side), (x, y + side)].map(|(x, y)| found.fit.map(x, y));
+        let extent = |i: usize| at.iter().map(|p| p[i]).fold(f64::MIN, f64::max) - at.iter().map(|p| p[i]).fold(f64::MAX, f64::min);
+        (size / ((extent(0) + extent(1)) / 2.0) - 1.0).abs()
+    };
+    found.corners.into_iter().zip(markers(f)).map(off).fold(0.0, f64::max)
 }
 
 /// How many cells are read right: the mean over the middle of the cell lies nearer to the colour that was drawn there than to any
@@ -121,4 +185,45 @@ fn middle_mean(card: &[u8], f: scene::Frame, col: usize, row: usize) -> Rgb {
     }
     let side = (f.cell - 2 * edge) as f64;
     sum.map(|s| s / (side * side))
+}
+
+#[cfg(test)]
+mod tests {
+    use super::*;
+
+    /// The four markers stamped on white, and one of them left out.
+    fn stamped(f: scene::Frame, markers: &[Marker]) -> Vec<u8> {
+        let mut card = vec![255; 3 * f.width * f.height];
+        for m in markers {
+            for y in 0..m.side {
+                for x in 0..m.side {
+                    let far = |v: usize| (2 * v + 1).abs_diff(m.side) * 3;
+                    let unit = far(x).max(far(y)) / m.side;
+                    let at = 3 * ((m.y + y) * f.width + m.x + x);
+                    card[at..at + 3].fill(if unit == 1 { 255 } else { 0 });
+                }
+            }
+        }
+        card
+    }
+
+    #[test]
+    fn a_ring_has_its_pattern() {
+        let f = scene::Frame::BENCH;
+        let all = markers(f);
+        let card = stamped(f, &all);
+        for m in all {
+            assert!(pattern_at(&card, f, m) > 0.95, "{}", pattern_at(&card, f, m));
+        }
+        let without = stamped(f, &all[1..]);
+        assert_eq!(pattern_at(&without, f, all[0]), 0.0);
+        let inverted: Vec<u8> = card.iter().map(|v| 255 - v).collect();
+        assert!(pattern_at(&inverted, f, all[2]) < -0.95);
+    }
+
+    #[test]
+    fn correlations() {
+        assert!((correlation(&[(0.0, 3.0), (1.0, 5.0), (1.0, 5.0)]) - 1.0).abs() < 1e-12);
+        assert_eq!(correlation(&[(0.0, 3.0), (1.0, 3.0)]), 0.0);
+    }
 }

@@ -20,9 +20,10 @@ fn checked(what: &str, scene: &Scene, test: impl Fn(&Laid) -> bool, may_be_refus
     good
 }
 
-/// Laid right to a quarter of a cell, every cell read right, and neither score nor phase says otherwise.
+/// Laid right to a quarter of a cell, every cell read right, and neither score, phase nor rings say otherwise.
 fn sound(c: &Laid) -> bool {
-    c.error < c.half_cell / 2.0 && c.cells_read == c.cells && c.score() >= SCORE_LIMIT && c.phase <= PHASE_LIMIT
+    let placed = c.error < c.half_cell / 2.0 && c.cells_read == c.cells;
+    placed && c.score() >= SCORE_LIMIT && c.phase <= PHASE_LIMIT && c.ring_pattern > 0.76 && c.ring_size < 0.05
 }
 
 /// Wrong, and said to be doubtful.

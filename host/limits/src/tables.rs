@@ -256,7 +256,8 @@ mod tests {
 
     /// Rows named 0, 1, ..: `o` and `.` pass, `x` and `X` do not; `o` and `X` are ordinary.
     fn rows(letters: &str) -> Vec<Tally> {
-        let laid = Laid { score: Some(99.0), phase: 0.0, error: 0.0, half_cell: 5.0, cells: 4, cells_read: 4 };
+        let laid =
+            Laid { score: Some(99.0), phase: 0.0, ring_pattern: 1.0, ring_size: 0.0, error: 0.0, half_cell: 5.0, cells: 4, cells_read: 4 };
         let row = |(i, c): (usize, char)| Tally {
             label: i.to_string(),
             ordinary: matches!(c, 'o' | 'X'),
