@@ -64,7 +64,8 @@ module _ {A : Type 0} (f : ℕ → A) (l : List A) where
       (eq-or-lt-of-le q)
 
   -- a list that agrees is the table's
-  pub filled-is : (n : ℕ) (d : A) (b : List A) → n ≤ length l → length b ≡ length l → ((k : ℕ) → k < n → getD b k d ≡ f k) → ((k : ℕ) → n ≤ k → getD b k d ≡ getD l k d) → b ≡ filled f n l
+  pub filled-is : (n : ℕ) (d : A) (b : List A) → n ≤ length l → length b ≡ length l → ((k : ℕ) → k < n → getD b k d ≡ f k)
+      → ((k : ℕ) → n ≤ k → getD b k d ≡ getD l k d) → b ≡ filled f n l
   filled-is n d b r e i o =
       ext-getD d b (filled f n l) (e ∙ sym (length-filled n))
       (λ k h. ⊎-elim

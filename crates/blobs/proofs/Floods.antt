@@ -14,7 +14,7 @@ use Rattle.base.proofs.Turns.{turns-keep}
 use Rattle.blobs.specs.declared.Blob.{Blob}
 use Rattle.blobs.specs.Patches.{Dark, Touch, Joined, total, one, column, row, Marks, PatchOf}
 use Rattle.blobs.specs.Patches.Joined.{here, step}
-use Rattle.blobs.specs.Stack.{Marking, marking, spread, grow, Flooding, flooding, noBlob, begun, take, turn, flood}
+use Rattle.blobs.specs.Stack.{Marking, marking, spread, grow, Flooding, flooding, noBlob, begun, take, floodStep, flood}
 use Rattle.blobs.specs.Ready.{at, Held, Pixel, Closed, Ready}
 use Rattle.blobs.proofs.Sums.{total-set, total-most, total-less, at-set, flags-set, summed, summed-one}
 use Rattle.blobs.proofs.Grid.{dark-inside}
@@ -85,7 +85,7 @@ progress-start {m} {w} {a} {s} g =
     alone : (q : ℕ) → Waits q (a ∷ []) → Joined m w a q
     alone q (newest e) = subst (Joined m w a) (sym e) (here (g .dark))
 
--- ---- a turn: the newest pixel p is taken, counted, and its neighbours are looked at
+-- ---- a turn: the newest pixel p is taken, counted, and its neighbours are visited
 boxed-more : {w : ℕ} (b : Blob) (p q : ℕ) → Boxed w b q → Boxed w (grow b (p % w) (p / w)) q
 unfolding grow
 boxed-more b p q h = record { x0 = omega (arith, h .x0); x1 = omega (arith, h .x1); y0 = omega (arith, h .y0); y1 = omega (arith, h .y1) }
@@ -180,12 +180,12 @@ unfolding take
 progress-take pix f [] e v = v
 progress-take pix f (p ∷ k) e v = progress-pop pix f p k e v
 
-progress-turn : {m : List ℕ} {w a : ℕ} {s₀ : List ℕ} → Pixel m w a → (i : ℕ) (f : Flooding) → Progress m w a s₀ f → Progress m w a s₀ (turn m w i f)
-unfolding turn
+progress-turn : {m : List ℕ} {w a : ℕ} {s₀ : List ℕ} → Pixel m w a → (i : ℕ) (f : Flooding) → Progress m w a s₀ f → Progress m w a s₀ (floodStep m w i f)
+unfolding floodStep
 progress-turn pix i f v = progress-take pix f (f .waiting) refl v
 
-pub progress-turns : {m : List ℕ} {w a : ℕ} {s₀ : List ℕ} → Ready m w s₀ a → (n : ℕ) → Progress m w a s₀ (turns n (turn m w) (begun w a s₀))
-progress-turns {m} {w} {a} {s₀} g n = turns-keep (turn m w) (begun w a s₀) (Progress m w a s₀) (progress-start g) (λ i f v. progress-turn (g .pixel) i f v) n
+pub progress-turns : {m : List ℕ} {w a : ℕ} {s₀ : List ℕ} → Ready m w s₀ a → (n : ℕ) → Progress m w a s₀ (turns n (floodStep m w) (begun w a s₀))
+progress-turns {m} {w} {a} {s₀} g n = turns-keep (floodStep m w) (begun w a s₀) (Progress m w a s₀) (progress-start g) (λ i f v. progress-turn (g .pixel) i f v) n
 
 -- ---- the bounds of a flood's numbers
 pub progress-area : {m : List ℕ} {w a : ℕ} {s₀ : List ℕ} {f : Flooding} → Progress m w a s₀ f → f .blob .area + length (f .waiting) ≤ length m
@@ -209,20 +209,21 @@ unfolding take grow
 take-counts m w f [] = inl refl
 take-counts m w f (p ∷ k) = inr refl
 
-pub turn-none : (m : List ℕ) (w i : ℕ) (f : Flooding) → f .waiting ≡ [] → turn m w i f ≡ f
-unfolding turn
-turn-none m w i f e = take-none m w f (f .waiting) e
+pub floodStep-none : (m : List ℕ) (w i : ℕ) (f : Flooding) → f .waiting ≡ [] → floodStep m w i f ≡ f
+unfolding floodStep
+floodStep-none m w i f e = take-none m w f (f .waiting) e
 
-turn-counts : (m : List ℕ) (w i : ℕ) (f : Flooding) → (f .waiting ≡ []) ⊎ (turn m w i f .blob .area ≡ f .blob .area + 1)
-unfolding turn
-turn-counts m w i f = take-counts m w f (f .waiting)
+floodStep-counts : (m : List ℕ) (w i : ℕ) (f : Flooding) → (f .waiting ≡ []) ⊎ (floodStep m w i f .blob .area ≡ f .blob .area + 1)
+unfolding floodStep
+floodStep-counts m w i f = take-counts m w f (f .waiting)
 
-counted : (m : List ℕ) (w a : ℕ) (s : List ℕ) (n : ℕ) → (turns n (turn m w) (begun w a s) .waiting ≡ []) ⊎ (turns n (turn m w) (begun w a s) .blob .area ≡ n)
+counted : (m : List ℕ) (w a : ℕ) (s : List ℕ) (n : ℕ) → (turns n (floodStep m w) (begun w a s) .waiting ≡ []) ⊎ (turns n (floodStep m w) (begun w a s) .blob .area ≡ n)
 unfolding turns begun noBlob
 counted m w a s zero = inr refl
 counted m w a s (suc n) =
-    ⊎-elim (λ e. inl (ap (λ (f : Flooding). f .waiting) (turn-none m w n (turns n (turn m w) (begun w a s)) e) ∙ e))
-    (λ e. ⊎-elim (λ o. inl (ap (λ (f : Flooding). f .waiting) (turn-none m w n (turns n (turn m w) (begun w a s)) o) ∙ o)) (λ o. inr (o ∙ ap (λ (x : ℕ). x + 1) e ∙ add-one n)) (turn-counts m w n (turns n (turn m w) (begun w a s))))
+    ⊎-elim (λ e. inl (ap (λ (f : Flooding). f .waiting) (floodStep-none m w n (turns n (floodStep m w) (begun w a s)) e) ∙ e))
+    (λ e. ⊎-elim (λ o. inl (ap (λ (f : Flooding). f .waiting) (floodStep-none m w n (turns n (floodStep m w) (begun w a s)) o) ∙ o))
+    (λ o. inr (o ∙ ap (λ (x : ℕ). x + 1) e ∙ add-one n)) (floodStep-counts m w n (turns n (floodStep m w) (begun w a s))))
     (counted m w a s n)
 
 empty : (k : List ℕ) → length k ≡ 0 → k ≡ []
@@ -318,4 +319,4 @@ module _ {m : List ℕ} {w a : ℕ} {s₀ : List ℕ} (g : Ready m w s₀ a) (f 
 
 pub flood-does : {m : List ℕ} {w a : ℕ} {s : List ℕ} → Ready m w s a → Flooded m w a s (flood m w a s)
 unfolding flood
-flood-does {m} {w} {a} {s} g = flooded g (turns (length m) (turn m w) (begun w a s)) (progress-turns g (length m)) (unfold flood in flood-ends g)
+flood-does {m} {w} {a} {s} g = flooded g (turns (length m) (floodStep m w) (begun w a s)) (progress-turns g (length m)) (unfold flood in flood-ends g)

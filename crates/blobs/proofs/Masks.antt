@@ -83,7 +83,8 @@ module _ (m : List ℕ) (w : ℕ) (c : List ℕ) (closed : T (all (length m) (ed
   flag (step {q} {r} j t d) = flag j ∙ touched q r t (end-dark j) d
 
   -- its flags mark it, where each flagged pixel is joined to a
-  marks-it : (a : ℕ) → getD c a 0 ≡ 1 → ((q : ℕ) → q < length m → getD c q 0 ≡ 1 → Joined m w a q) → T (all (length m) (λ q. leb (getD c q 0) 1)) → length c ≡ length m → Marks (λ q. getD c q 0) (Joined m w a)
+  marks-it : (a : ℕ) → getD c a 0 ≡ 1 → ((q : ℕ) → q < length m → getD c q 0 ≡ 1 → Joined m w a q)
+      → T (all (length m) (λ q. leb (getD c q 0) 1)) → length c ≡ length m → Marks (λ q. getD c q 0) (Joined m w a)
   marks-it a e joins flags long q = go (leb (length m) q) (leb→le (length m) q) (λ t. lt-of-not-le (λ h. T-not (leb (length m) q) t (le→ h)))
     where
       le→ : length m ≤ q → T (leb (length m) q)
@@ -104,11 +105,13 @@ module _ (m : List ℕ) (w : ℕ) (c : List ℕ) (closed : T (all (length m) (ed
   -- a bound of f on the class is one on the flagged pixels
   at-least : (a v : ℕ) (f : ℕ → ℕ) → getD c a 0 ≡ 1 → T (all (length m) (λ q. implies (eqb (getD c q 0) 1) (leb v (f q)))) → (q : ℕ) → Joined m w a q → v ≤ f q
   at-least a v f e h q j =
-      leb→le v (f q) (use-implies (eqb (getD c q 0) 1) (leb v (f q)) (all-at (length m) (λ q. implies (eqb (getD c q 0) 1) (leb v (f q))) h q (inside q (end-dark j))) (eq→eqb (sym (flag j) ∙ e)))
+      leb→le v (f q) (use-implies (eqb (getD c q 0) 1) (leb v (f q)) (all-at (length m) (λ q. implies (eqb (getD c q 0) 1) (leb v (f q))) h
+      q (inside q (end-dark j))) (eq→eqb (sym (flag j) ∙ e)))
 
   at-most : (a v : ℕ) (f : ℕ → ℕ) → getD c a 0 ≡ 1 → T (all (length m) (λ q. implies (eqb (getD c q 0) 1) (leb (f q) v))) → (q : ℕ) → Joined m w a q → f q ≤ v
   at-most a v f e h q j =
-      leb→le (f q) v (use-implies (eqb (getD c q 0) 1) (leb (f q) v) (all-at (length m) (λ q. implies (eqb (getD c q 0) 1) (leb (f q) v)) h q (inside q (end-dark j))) (eq→eqb (sym (flag j) ∙ e)))
+      leb→le (f q) v (use-implies (eqb (getD c q 0) 1) (leb (f q) v) (all-at (length m) (λ q. implies (eqb (getD c q 0) 1) (leb (f q) v)) h
+      q (inside q (end-dark j))) (eq→eqb (sym (flag j) ∙ e)))
 
 -- ---- M8: #.#, #.#, ### is one patch: 7 7 8 0 0 2 2
 

@@ -95,7 +95,8 @@ firsts-apart {m} {w} {p} {q} o f g t =
     no-self (over e) a b = omega arith
 
 -- so many first pixels there are at most
-pub firsts-few : (m : List ℕ) (w h : ℕ) (flag : List ℕ) → 0 < w → length m ≡ h * w → ((q : ℕ) → at flag q ≤ 1) → ((q : ℕ) → at flag q ≡ 1 → First m w q) → 2 * total one (at flag) (length m) ≤ length m + 1
+pub firsts-few : (m : List ℕ) (w h : ℕ) (flag : List ℕ) → 0 < w → length m ≡ h * w → ((q : ℕ) → at flag q ≤ 1) → ((q : ℕ) → at flag q ≡ 1
+    → First m w q) → 2 * total one (at flag) (length m) ≤ length m + 1
 firsts-few m w h flag o z f g = subst (λ (n : ℕ). 2 * total one (at flag) n ≤ n + 1) (sym z) (few (at flag) w o f apart h)
   where
     go : (p q : ℕ) → Touch w p q → Dec (at flag p ≡ 1) → Dec (at flag q ≡ 1) → at flag p + at flag q ≤ 1

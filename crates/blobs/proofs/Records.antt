@@ -56,26 +56,39 @@ module _ (l : List ℕ) (b v0 v1 v2 v3 v4 v5 v6 : ℕ) where
   l7 = set l6 (b + 6) v6
 
   out : (i : ℕ) → i < b → getD l7 i 0 ≡ getD l i 0
-  out i c = getD-set-other l6 (b + 6) i v6 0 (λ x. omega arith) ∙ getD-set-other l5 (b + 5) i v5 0 (λ x. omega arith) ∙ getD-set-other l4 (b + 4) i v4 0 (λ x. omega arith) ∙ getD-set-other l3 (b + 3) i v3 0 (λ x. omega arith) ∙ getD-set-other l2 (b + 2) i v2 0 (λ x. omega arith) ∙ getD-set-other l1 (b + 1) i v1 0 (λ x. omega arith) ∙ getD-set-other l b i v0 0 (λ x. omega arith)
+  out i c = getD-set-other l6 (b + 6) i v6 0 (λ x. omega arith) ∙ getD-set-other l5 (b + 5) i v5 0 (λ x. omega arith)
+      ∙ getD-set-other l4 (b + 4) i v4 0 (λ x. omega arith) ∙ getD-set-other l3 (b + 3) i v3 0 (λ x. omega arith)
+      ∙ getD-set-other l2 (b + 2) i v2 0 (λ x. omega arith) ∙ getD-set-other l1 (b + 1) i v1 0 (λ x. omega arith)
+      ∙ getD-set-other l b i v0 0 (λ x. omega arith)
 
   rest : (n : ℕ) → b + 7 ≤ n → drop n l7 ≡ drop n l
-  rest n h = drop-set-lt n l6 (b + 6) v6 (omega arith) ∙ drop-set-lt n l5 (b + 5) v5 (omega arith) ∙ drop-set-lt n l4 (b + 4) v4 (omega arith) ∙ drop-set-lt n l3 (b + 3) v3 (omega arith) ∙ drop-set-lt n l2 (b + 2) v2 (omega arith) ∙ drop-set-lt n l1 (b + 1) v1 (omega arith) ∙ drop-set-lt n l b v0 (omega arith)
+  rest n h = drop-set-lt n l6 (b + 6) v6 (omega arith) ∙ drop-set-lt n l5 (b + 5) v5 (omega arith) ∙ drop-set-lt n l4 (b + 4) v4
+      (omega arith) ∙ drop-set-lt n l3 (b + 3) v3 (omega arith) ∙ drop-set-lt n l2 (b + 2) v2 (omega arith) ∙ drop-set-lt n l1 (b + 1) v1
+      (omega arith) ∙ drop-set-lt n l b v0 (omega arith)
 
   long : length l7 ≡ length l
   long = simp length-set
 
   module _ (h : b + 7 ≤ length l) where
     p0 : getD l7 b 0 ≡ v0
-    p0 = getD-set-other l6 (b + 6) b v6 0 (λ x. omega arith) ∙ getD-set-other l5 (b + 5) b v5 0 (λ x. omega arith) ∙ getD-set-other l4 (b + 4) b v4 0 (λ x. omega arith) ∙ getD-set-other l3 (b + 3) b v3 0 (λ x. omega arith) ∙ getD-set-other l2 (b + 2) b v2 0 (λ x. omega arith) ∙ getD-set-other l1 (b + 1) b v1 0 (λ x. omega arith) ∙ getD-set-same l b v0 0 (omega arith)
+    p0 = getD-set-other l6 (b + 6) b v6 0 (λ x. omega arith) ∙ getD-set-other l5 (b + 5) b v5 0 (λ x. omega arith)
+        ∙ getD-set-other l4 (b + 4) b v4 0 (λ x. omega arith) ∙ getD-set-other l3 (b + 3) b v3 0 (λ x. omega arith)
+        ∙ getD-set-other l2 (b + 2) b v2 0 (λ x. omega arith) ∙ getD-set-other l1 (b + 1) b v1 0 (λ x. omega arith)
+        ∙ getD-set-same l b v0 0 (omega arith)
 
     p1 : getD l7 (b + 1) 0 ≡ v1
-    p1 = getD-set-other l6 (b + 6) (b + 1) v6 0 (λ x. omega arith) ∙ getD-set-other l5 (b + 5) (b + 1) v5 0 (λ x. omega arith) ∙ getD-set-other l4 (b + 4) (b + 1) v4 0 (λ x. omega arith) ∙ getD-set-other l3 (b + 3) (b + 1) v3 0 (λ x. omega arith) ∙ getD-set-other l2 (b + 2) (b + 1) v2 0 (λ x. omega arith) ∙ getD-set-same l1 (b + 1) v1 0 (simp length-set (omega arith))
+    p1 = getD-set-other l6 (b + 6) (b + 1) v6 0 (λ x. omega arith) ∙ getD-set-other l5 (b + 5) (b + 1) v5 0 (λ x. omega arith)
+        ∙ getD-set-other l4 (b + 4) (b + 1) v4 0 (λ x. omega arith) ∙ getD-set-other l3 (b + 3) (b + 1) v3 0 (λ x. omega arith)
+        ∙ getD-set-other l2 (b + 2) (b + 1) v2 0 (λ x. omega arith) ∙ getD-set-same l1 (b + 1) v1 0 (simp length-set (omega arith))
 
     p2 : getD l7 (b + 2) 0 ≡ v2
-    p2 = getD-set-other l6 (b + 6) (b + 2) v6 0 (λ x. omega arith) ∙ getD-set-other l5 (b + 5) (b + 2) v5 0 (λ x. omega arith) ∙ getD-set-other l4 (b + 4) (b + 2) v4 0 (λ x. omega arith) ∙ getD-set-other l3 (b + 3) (b + 2) v3 0 (λ x. omega arith) ∙ getD-set-same l2 (b + 2) v2 0 (simp length-set (omega arith))
+    p2 = getD-set-other l6 (b + 6) (b + 2) v6 0 (λ x. omega arith) ∙ getD-set-other l5 (b + 5) (b + 2) v5 0 (λ x. omega arith)
+        ∙ getD-set-other l4 (b + 4) (b + 2) v4 0 (λ x. omega arith) ∙ getD-set-other l3 (b + 3) (b + 2) v3 0 (λ x. omega arith)
+        ∙ getD-set-same l2 (b + 2) v2 0 (simp length-set (omega arith))
 
     p3 : getD l7 (b + 3) 0 ≡ v3
-    p3 = getD-set-other l6 (b + 6) (b + 3) v6 0 (λ x. omega arith) ∙ getD-set-other l5 (b + 5) (b + 3) v5 0 (λ x. omega arith) ∙ getD-set-other l4 (b + 4) (b + 3) v4 0 (λ x. omega arith) ∙ getD-set-same l3 (b + 3) v3 0 (simp length-set (omega arith))
+    p3 = getD-set-other l6 (b + 6) (b + 3) v6 0 (λ x. omega arith) ∙ getD-set-other l5 (b + 5) (b + 3) v5 0 (λ x. omega arith)
+        ∙ getD-set-other l4 (b + 4) (b + 3) v4 0 (λ x. omega arith) ∙ getD-set-same l3 (b + 3) v3 0 (simp length-set (omega arith))
 
     p4 : getD l7 (b + 4) 0 ≡ v4
     p4 = getD-set-other l6 (b + 6) (b + 4) v6 0 (λ x. omega arith) ∙ getD-set-other l5 (b + 5) (b + 4) v5 0 (λ x. omega arith) ∙ getD-set-same l4 (b + 4) v4 0 (simp length-set (omega arith))

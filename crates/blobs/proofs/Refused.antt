@@ -15,7 +15,7 @@ use Rattle.frame.proofs.Tests.{either, or-first, or-second}
 use Rattle.frame.proofs.Lowest.{lowest-of, lowest-first, lowest-next, lowest-none}
 use Rattle.frame.proofs.Held.{sides-held}
 use Rattle.blobs.specs.Patches.{recordLength}
-use Rattle.blobs.specs.Doors.{patchTests}
+use Rattle.blobs.specs.Contracts.{patchTests}
 use Rattle.blobs.specs.Ready.{Sized}
 
 or-neither : (a b : Bool) → a ≡ false → b ≡ false → a || b ≡ false

@@ -204,7 +204,15 @@ module _ {m : List ℕ} {w : ℕ} {c : Scanned} {i : ℕ} (v : Scan m w c i) (in
     areas′ : total (λ j. blobAt c′ j .area) one (count c′) ≡ total one (at (f .seen)) (length m)
     areas′ =
         ap (total (λ j. blobAt c′ j .area) one) more
-        ∙ omega (arith, g .count, v .areas, total-next (λ j. blobAt c′ j .area) (count c), total-same-f (λ j. blobAt c′ j .area) (λ j. blobAt c j .area) (count c) (λ j b. ap (λ (x : Blob). x .area) (blob-old j b)), ap (λ (x : Blob). x .area) blob-new)
+        ∙ omega (
+          arith,
+          g .count,
+          v .areas,
+          total-next (λ j. blobAt c′ j .area) (count c),
+          total-same-f (λ j. blobAt c′ j .area)
+              (λ j. blobAt c j .area) (count c) (λ j b. ap (λ (x : Blob). x .area) (blob-old j b)),
+          ap (λ (x : Blob). x .area) blob-new,
+        )
 
     waited′ : ((count c′ ≡ 0) × (c′ .most ≡ 0)) ⊎ ((1 ≤ c′ .most) × ((j : ℕ) × (j < count c′) × (c′ .most ≤ blobAt c′ j .area)))
     waited′ =

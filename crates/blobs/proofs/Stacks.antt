@@ -13,10 +13,11 @@ use Rattle.base.proofs.Pick.{pick-yes, pick-no}
 use Rattle.base.proofs.Turns.{turns-stay}
 use Rattle.blobs.specs.declared.Blob.{Blob}
 use Rattle.blobs.specs.Patches.{patchAt, stored, recordLength}
-use Rattle.blobs.specs.Stack.{Marking, marking, stackOf, look, lookLeft, lookRight, lookUp, spread, grow, noBlob, Flooding, flooding, begun, take, turn, flood, Scanned, scanned, listed, scan}
+use Rattle.blobs.specs.Stack.{Marking, marking, stackOf, visit, visitLeft, visitRight, visitUp, spread, grow, noBlob, Flooding, flooding, begun, take, floodStep}
+use Rattle.blobs.specs.Stack.{flood, Scanned, scanned, listed, scan}
 use Rattle.blobs.specs.Ready.{at, Held, Stacked, Pixel}
 use Rattle.blobs.proofs.Steps.{cond-elim, room, reach-left, reach-right, reach-up}
-use Rattle.blobs.proofs.Floods.{turn-none}
+use Rattle.blobs.proofs.Floods.{floodStep-none}
 use Rattle.blobs.proofs.Records.{stored-table}
 
 -- ---- the stack
@@ -46,31 +47,31 @@ stack-none k t e = ap (stackOf k) e
 
 -- ---- one pixel
 module _ (m : List ℕ) (q : ℕ) (a : Marking) where
-  pub look-light : at m q ≡ 0 → a ≡ look m q a
-  unfolding look
-  look-light e = pick-yes (eqb (at m q) 0) a _ (eq-eqb (at m q) 0 e)
+  pub visit-light : at m q ≡ 0 → a ≡ visit m q a
+  unfolding visit
+  visit-light e = pick-yes (eqb (at m q) 0) a _ (eq-eqb (at m q) 0 e)
 
-  pub look-seen : (at (a .seen) q ≡ 0 → ⊥) → a ≡ look m q a
-  unfolding look
-  look-seen o = cond-elim (λ b. a ≡ b) (eqb (at m q) 0) a _ (λ e. refl) (λ e. pick-no (eqb (at (a .seen) q) 0) _ a (ne-eqb (at (a .seen) q) 0 o))
+  pub visit-seen : (at (a .seen) q ≡ 0 → ⊥) → a ≡ visit m q a
+  unfolding visit
+  visit-seen o = cond-elim (λ b. a ≡ b) (eqb (at m q) 0) a _ (λ e. refl) (λ e. pick-no (eqb (at (a .seen) q) 0) _ a (ne-eqb (at (a .seen) q) 0 o))
 
-  pub look-push : (at m q ≡ 0 → ⊥) → at (a .seen) q ≡ 0 → marking (set (a .seen) q 1) (q ∷ a .waiting) ≡ look m q a
-  unfolding look
-  look-push d u = pick-yes (eqb (at (a .seen) q) 0) _ a (eq-eqb (at (a .seen) q) 0 u) ∙ pick-no (eqb (at m q) 0) a _ (ne-eqb (at m q) 0 d)
+  pub visit-push : (at m q ≡ 0 → ⊥) → at (a .seen) q ≡ 0 → marking (set (a .seen) q 1) (q ∷ a .waiting) ≡ visit m q a
+  unfolding visit
+  visit-push d u = pick-yes (eqb (at (a .seen) q) 0) _ a (eq-eqb (at (a .seen) q) 0 u) ∙ pick-no (eqb (at m q) 0) a _ (ne-eqb (at m q) 0 d)
 
 -- room for a pixel that is not marked
 pub stack-room : {m s k : List ℕ} {t : ℕ} (q : ℕ) → Stacked m s k t → q < length m → at s q ≡ 0 → t < length k
 stack-room {m} {s} {k} {t} q h l z = omega (arith, room q (h .held) l z, length-stack k t, h .long)
 
--- ---- the stack after a look
+-- ---- the stack after a visit
 module _ {m : List ℕ} {w p : ℕ} {s k : List ℕ} {t : ℕ} {s′ k′ : List ℕ} {t′ : ℕ} (x : Pixel m w p) (h : Stacked m s k t) (l : length k′ ≡ length k) where
-  pub stacked-left : marking s′ (stackOf k′ t′) ≡ lookLeft m w p (marking s (stackOf k t)) → Stacked m s′ k′ t′
+  pub stacked-left : marking s′ (stackOf k′ t′) ≡ visitLeft m w p (marking s (stackOf k t)) → Stacked m s′ k′ t′
   stacked-left e = record { held = subst (Held m) (sym e) (reach-left (marking s (stackOf k t)) x (h .held) .held); long = l ∙ h .long }
 
-  pub stacked-right : marking s′ (stackOf k′ t′) ≡ lookRight m w p (marking s (stackOf k t)) → Stacked m s′ k′ t′
+  pub stacked-right : marking s′ (stackOf k′ t′) ≡ visitRight m w p (marking s (stackOf k t)) → Stacked m s′ k′ t′
   stacked-right e = record { held = subst (Held m) (sym e) (reach-right (marking s (stackOf k t)) x (h .held) .held); long = l ∙ h .long }
 
-  pub stacked-up : marking s′ (stackOf k′ t′) ≡ lookUp m w p (marking s (stackOf k t)) → Stacked m s′ k′ t′
+  pub stacked-up : marking s′ (stackOf k′ t′) ≡ visitUp m w p (marking s (stackOf k t)) → Stacked m s′ k′ t′
   stacked-up e = record { held = subst (Held m) (sym e) (reach-up (marking s (stackOf k t)) x (h .held) .held); long = l ∙ h .long }
 
 -- ---- a flood's start, a turn and its end
@@ -79,10 +80,11 @@ unfolding begun stackOf
 begun-is s k w a b l e = let g : getD (set k 0 a) 0 0 ≡ a = getD-set-same k 0 a 0 l in λ i. flooding (set s a 1) (g i ∷ []) (e i) 1
 
 module _ (m : List ℕ) (w i : ℕ) (s k : List ℕ) (t : ℕ) (b : Blob) (d : ℕ) (s′ k′ : List ℕ) (t′ : ℕ) (b′ : Blob) (d′ : ℕ) where
-  pub turn-is : (l : ℕ) → t ≡ l + 1 → marking s′ (stackOf k′ t′) ≡ spread m w (at k l) (marking s (stackOf k l)) → b′ ≡ grow b (at k l % w) (at k l / w) → d′ ≡ max d t′
-      → flooding s′ (stackOf k′ t′) b′ d′ ≡ turn m w i (flooding s (stackOf k t) b d)
-  unfolding turn take
-  turn-is l te e be de =
+  pub floodStep-is : (l : ℕ) → t ≡ l + 1 → marking s′ (stackOf k′ t′) ≡ spread m w (at k l) (marking s (stackOf k l)) → b′
+      ≡ grow b (at k l % w) (at k l / w) → d′ ≡ max d t′
+      → flooding s′ (stackOf k′ t′) b′ d′ ≡ floodStep m w i (flooding s (stackOf k t) b d)
+  unfolding floodStep take
+  floodStep-is l te e be de =
       let de′ : d′ ≡ max d (length (spread m w (at k l) (marking s (stackOf k l)) .waiting)) =
       de ∙ ap (max d) (sym (length-stack k′ t′) ∙ ap (λ (a : Marking). length (a .waiting)) e) in
       (λ j. flooding (e j .seen) (e j .waiting) (be j) (de′ j)) ∙ sym (ap (take m w (flooding s (stackOf k t) b d)) (stack-pop k t l te))
@@ -91,10 +93,11 @@ pub grow-area : (b b′ : Blob) (x y : ℕ) → b′ ≡ grow b x y → b′ .ar
 unfolding grow
 grow-area b b′ x y e = ap (λ (z : Blob). z .area) e
 
-pub flood-is : (m : List ℕ) (w a : ℕ) (s₀ : List ℕ) (n : ℕ) (f : Flooding) → f .waiting ≡ [] → n ≤ length m → f ≡ turns n (turn m w) (begun w a s₀) → f ≡ flood m w a s₀
+pub flood-is : (m : List ℕ) (w a : ℕ) (s₀ : List ℕ) (n : ℕ) (f : Flooding) → f .waiting ≡ [] → n ≤ length m → f
+    ≡ turns n (floodStep m w) (begun w a s₀) → f ≡ flood m w a s₀
 unfolding flood
 flood-is m w a s₀ n f fe l e =
-    turns-stay (turn m w) (begun w a s₀) (λ x. f ≡ x) (λ k x p. sym (ap (turn m w k) (sym p) ∙ turn-none m w k f fe)) n (length m) l e
+    turns-stay (floodStep m w) (begun w a s₀) (λ x. f ≡ x) (λ k x p. sym (ap (floodStep m w k) (sym p) ∙ floodStep-none m w k f fe)) n (length m) l e
 
 -- ---- the scan's step
 module _ (m : List ℕ) (w i : ℕ) (c : Scanned) where

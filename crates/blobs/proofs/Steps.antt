@@ -1,4 +1,4 @@
--- What a look at one pixel, and at the four neighbours of one, does to marks and waiting pixels. Assumes nothing.
+-- What a visit to one pixel, and to the four neighbours of one, does to marks and waiting pixels. Assumes nothing.
 use Prim.Native.Nat.{ℕ, _+_, _-_, _%_, _≤_, _<_}
 use native.Mathlib.Nat.{mod-le}
 use native.Mathlib.Omega.{arith}
@@ -12,7 +12,7 @@ use lib.Seq.{getD-set-same}
 use borrow.Author.Tests.{eqb-true, eqb-false, ltb-true, leb-true, lt-ltb, le-leb}
 use Rattle.blobs.specs.Patches.{Dark, Touch, total, one}
 use Rattle.blobs.specs.Patches.Touch.{right, left, under, over}
-use Rattle.blobs.specs.Stack.{Marking, marking, look, lookLeft, lookRight, lookUp, lookDown, spread}
+use Rattle.blobs.specs.Stack.{Marking, marking, visit, visitLeft, visitRight, visitUp, visitDown, spread}
 use Rattle.blobs.specs.Ready.{at, Held, Pixel}
 use Rattle.blobs.proofs.Sums.{total-set, at-set, flags-set, unseen-fewer, summed}
 use Rattle.blobs.proofs.Grid.{left-of, right-of, in-row, dark-inside}
@@ -97,33 +97,34 @@ reach-then r s =
     }
 
 -- ---- one pixel
-reach-look : {m : List ℕ} (a : Marking) (q : ℕ) → Held m a → q < length m → Reach m (λ x. x ≡ q) a (look m q a)
-unfolding look
-reach-look {m} a q h l =
+reach-visit : {m : List ℕ} (a : Marking) (q : ℕ) → Held m a → q < length m → Reach m (λ x. x ≡ q) a (visit m q a)
+unfolding visit
+reach-visit {m} a q h l =
     cond-elim (Reach m (λ x. x ≡ q) a) (eqb (getD m q 0) 0) a _ (λ e. reach-none h)
     (λ e. cond-elim (Reach m (λ x. x ≡ q) a) (eqb (getD (a .seen) q 0) 0) _ a (λ z. reach-push q h l (eqb-true _ 0 z) (eqb-false _ 0 e)) (λ z. reach-none h))
 
-look-marks : {m : List ℕ} (a : Marking) (q : ℕ) → Held m a → q < length m → Dark m q → at (look m q a .seen) q ≡ 1
-unfolding look
-look-marks {m} a q h l d =
+visit-marks : {m : List ℕ} (a : Marking) (q : ℕ) → Held m a → q < length m → Dark m q → at (visit m q a .seen) q ≡ 1
+unfolding visit
+visit-marks {m} a q h l d =
     cond-elim (λ b. at (b .seen) q ≡ 1) (eqb (getD m q 0) 0) a _ (λ e. absurd (d (eqb-true _ 0 e)))
-    (λ e. cond-elim (λ b. at (b .seen) q ≡ 1) (eqb (getD (a .seen) q 0) 0) _ a (λ z. getD-set-same (a .seen) q 1 0 (omega (arith, h .long))) (λ z. let o = eqb-false (getD (a .seen) q 0) 0 z in omega (arith, h .flags q)))
+    (λ e. cond-elim (λ b. at (b .seen) q ≡ 1) (eqb (getD (a .seen) q 0) 0) _ a (λ z. getD-set-same (a .seen) q 1 0 (omega (arith, h .long)))
+    (λ z. let o = eqb-false (getD (a .seen) q 0) 0 z in omega (arith, h .flags q)))
 
 -- one pixel, where a test holds
-reach-if : {m : List ℕ} (P : ℕ → Type 0) (t : Bool) (a : Marking) (q : ℕ) → Held m a → (t ≡ true → (q < length m) × P q) → Reach m P a (cond t (look m q a) a)
+reach-if : {m : List ℕ} (P : ℕ → Type 0) (t : Bool) (a : Marking) (q : ℕ) → Held m a → (t ≡ true → (q < length m) × P q) → Reach m P a (cond t (visit m q a) a)
 reach-if {m} P t a q h y =
-    cond-elim (Reach m P a) t (look m q a) a (λ e. reach-wide (λ x z. subst P (sym z) (y e .1)) (reach-look a q h (y e .0))) (λ e. reach-none h)
+    cond-elim (Reach m P a) t (visit m q a) a (λ e. reach-wide (λ x z. subst P (sym z) (y e .1)) (reach-visit a q h (y e .0))) (λ e. reach-none h)
 
-if-marks : {m : List ℕ} (t : Bool) (a : Marking) (q : ℕ) → t ≡ true → Held m a → Dark m q → at (cond t (look m q a) a .seen) q ≡ 1
-if-marks {m} t a q e h d = cond-elim (λ b. at (b .seen) q ≡ 1) t (look m q a) a (λ y. look-marks a q h (dark-inside m q d) d) (λ n. absurd (true-false (sym e ∙ n)))
+if-marks : {m : List ℕ} (t : Bool) (a : Marking) (q : ℕ) → t ≡ true → Held m a → Dark m q → at (cond t (visit m q a) a .seen) q ≡ 1
+if-marks {m} t a q e h d = cond-elim (λ b. at (b .seen) q ≡ 1) t (visit m q a) a (λ y. visit-marks a q h (dark-inside m q d) d) (λ n. absurd (true-false (sym e ∙ n)))
   where
     true-false : true ≡ false → ⊥
     true-false p = let z : _≡_ {A = ℕ} 0 1 = cc in omega arith
 
 -- ---- the four neighbours of p
 module _ {m : List ℕ} {w p : ℕ} (a : Marking) (x : Pixel m w p) (h : Held m a) where
-  pub reach-left : Reach m (Touch w p) a (lookLeft m w p a)
-  unfolding lookLeft
+  pub reach-left : Reach m (Touch w p) a (visitLeft m w p a)
+  unfolding visitLeft
   reach-left = reach-if (Touch w p) (ltb 0 (p % w)) a (p - 1) h (λ e. go (ltb-true 0 (p % w) e))
     where
       go : 0 < p % w → (p - 1 < length m) × Touch w p (p - 1)
@@ -131,49 +132,51 @@ module _ {m : List ℕ} {w p : ℕ} (a : Marking) (x : Pixel m w p) (h : Held m 
           let b : p ≡ p - 1 + 1 = omega (arith, mod-le p w) in
           (omega (arith, x .inside), left b (left-of p (p - 1) w (x .wide) b l))
 
-  pub reach-right : Reach m (Touch w p) a (lookRight m w p a)
-  unfolding lookRight
+  pub reach-right : Reach m (Touch w p) a (visitRight m w p a)
+  unfolding visitRight
   reach-right = reach-if (Touch w p) (ltb (p % w + 1) w) a (p + 1) h (λ e. let l = ltb-true (p % w + 1) w e in (in-row p (length m) w (x .inside) (x .whole) l, right refl l))
 
-  pub reach-up : Reach m (Touch w p) a (lookUp m w p a)
-  unfolding lookUp
+  pub reach-up : Reach m (Touch w p) a (visitUp m w p a)
+  unfolding visitUp
   reach-up = reach-if (Touch w p) (leb w p) a (p - w) h (λ e. let l = leb-true w p e in (omega (arith, x .inside), over (omega arith)))
 
-  pub reach-down : Reach m (Touch w p) a (lookDown m w p a)
-  unfolding lookDown
+  pub reach-down : Reach m (Touch w p) a (visitDown m w p a)
+  unfolding visitDown
   reach-down = reach-if (Touch w p) (ltb (p + w) (length m)) a (p + w) h (λ e. (ltb-true (p + w) (length m) e, under refl))
 
-  left-marks : (q : ℕ) → p ≡ q + 1 → q % w + 1 < w → Dark m q → at (lookLeft m w p a .seen) q ≡ 1
-  unfolding lookLeft
+  left-marks : (q : ℕ) → p ≡ q + 1 → q % w + 1 < w → Dark m q → at (visitLeft m w p a .seen) q ≡ 1
+  unfolding visitLeft
   left-marks q e l d =
       let g : p - 1 ≡ q = omega arith in
-      subst (λ (z : ℕ). Dark m z → at (cond (ltb 0 (p % w)) (look m (p - 1) a) a .seen) z ≡ 1) g (λ b. if-marks (ltb 0 (p % w)) a (p - 1) (lt-ltb 0 (p % w) (right-of p q w e l)) h b) d
+      subst (λ (z : ℕ). Dark m z → at (cond (ltb 0 (p % w)) (visit m (p - 1) a) a .seen) z ≡ 1) g (λ b. if-marks (ltb 0 (p % w)) a (p - 1) (lt-ltb 0 (p % w) (right-of p q w e l)) h b) d
 
-  right-marks : (q : ℕ) → q ≡ p + 1 → p % w + 1 < w → Dark m q → at (lookRight m w p a .seen) q ≡ 1
-  unfolding lookRight
-  right-marks q e l d = subst (λ (z : ℕ). Dark m z → at (cond (ltb (p % w + 1) w) (look m (p + 1) a) a .seen) z ≡ 1) (sym e) (λ b. if-marks (ltb (p % w + 1) w) a (p + 1) (lt-ltb (p % w + 1) w l) h b) d
+  right-marks : (q : ℕ) → q ≡ p + 1 → p % w + 1 < w → Dark m q → at (visitRight m w p a .seen) q ≡ 1
+  unfolding visitRight
+  right-marks q e l d = subst (λ (z : ℕ). Dark m z → at (cond (ltb (p % w + 1) w) (visit m (p + 1) a) a .seen) z
+      ≡ 1) (sym e) (λ b. if-marks (ltb (p % w + 1) w) a (p + 1) (lt-ltb (p % w + 1) w l) h b) d
 
-  up-marks : (q : ℕ) → p ≡ q + w → Dark m q → at (lookUp m w p a .seen) q ≡ 1
-  unfolding lookUp
+  up-marks : (q : ℕ) → p ≡ q + w → Dark m q → at (visitUp m w p a .seen) q ≡ 1
+  unfolding visitUp
   up-marks q e d =
       let g : p - w ≡ q = omega arith in
-      subst (λ (z : ℕ). Dark m z → at (cond (leb w p) (look m (p - w) a) a .seen) z ≡ 1) g (λ b. if-marks (leb w p) a (p - w) (le-leb w p (omega arith)) h b) d
+      subst (λ (z : ℕ). Dark m z → at (cond (leb w p) (visit m (p - w) a) a .seen) z ≡ 1) g (λ b. if-marks (leb w p) a (p - w) (le-leb w p (omega arith)) h b) d
 
-  down-marks : (q : ℕ) → q ≡ p + w → Dark m q → at (lookDown m w p a .seen) q ≡ 1
-  unfolding lookDown
+  down-marks : (q : ℕ) → q ≡ p + w → Dark m q → at (visitDown m w p a .seen) q ≡ 1
+  unfolding visitDown
   down-marks q e d =
       let l : p + w < length m = omega (arith, dark-inside m q d) in
-      subst (λ (z : ℕ). Dark m z → at (cond (ltb (p + w) (length m)) (look m (p + w) a) a .seen) z ≡ 1) (sym e) (λ b. if-marks (ltb (p + w) (length m)) a (p + w) (lt-ltb (p + w) (length m) l) h b) d
+      subst (λ (z : ℕ). Dark m z → at (cond (ltb (p + w) (length m)) (visit m (p + w) a) a .seen) z
+      ≡ 1) (sym e) (λ b. if-marks (ltb (p + w) (length m)) a (p + w) (lt-ltb (p + w) (length m) l) h b) d
 
 module _ {m : List ℕ} {w p : ℕ} (a : Marking) (x : Pixel m w p) (h : Held m a) where
   abbrev a₁ : Marking
-  a₁ = lookLeft m w p a
+  a₁ = visitLeft m w p a
 
   abbrev a₂ : Marking
-  a₂ = lookRight m w p a₁
+  a₂ = visitRight m w p a₁
 
   abbrev a₃ : Marking
-  a₃ = lookUp m w p a₂
+  a₃ = visitUp m w p a₂
 
   r₁ : Reach m (Touch w p) a a₁
   r₁ = reach-left a x h
@@ -184,7 +187,7 @@ module _ {m : List ℕ} {w p : ℕ} (a : Marking) (x : Pixel m w p) (h : Held m 
   r₃ : Reach m (Touch w p) a₂ a₃
   r₃ = reach-up a₂ x (r₂ .held)
 
-  r₄ : Reach m (Touch w p) a₃ (lookDown m w p a₃)
+  r₄ : Reach m (Touch w p) a₃ (visitDown m w p a₃)
   r₄ = reach-down a₃ x (r₃ .held)
 
   pub reach-spread : Reach m (Touch w p) a (spread m w p a)

@@ -64,7 +64,8 @@ module _ (m : List ℕ) (w : ℕ) where
       where
         go : (i : ℕ) × (i < o) × (getD G i 0 ≡ getD F j 0) → (j < o) × (getD G j 0 ≤ getD F j 0)
         go c = ⊎-elim
-            (λ l. absurd (let x : getD F (c .0) 0 < getD F j 0 = a .ordered (c .0) j l h in let y : getD F (c .0) 0 ≡ getD G (c .0) 0 = same (c .0) l in let z : getD G (c .0) 0 ≡ getD F j 0 = c .2 in omega arith))
+            (λ l. absurd (let x : getD F (c .0) 0 < getD F j 0 = a .ordered (c .0) j l h in
+            let y : getD F (c .0) 0 ≡ getD G (c .0) 0 = same (c .0) l in let z : getD G (c .0) 0 ≡ getD F j 0 = c .2 in omega arith))
             (λ l. (
               omega (arith, c .1),
               ⊎-elim
@@ -102,7 +103,8 @@ module _ (m : List ℕ) (w : ℕ) where
       at-most (suc n) o f = f n (omega arith)
 
   -- two lists that satisfy the statement are equal: as many records, the same first pixels, the same records
-  pub lists-equal : {k k′ l l′ : List ℕ} {n o : ℕ} {F G : List ℕ} → PatchList m w k k′ n F → PatchList m w l l′ o G → (n ≡ o) × (F ≡ G) × (table (patchAt k′) n ≡ table (patchAt l′) o)
+  pub lists-equal : {k k′ l l′ : List ℕ} {n o : ℕ} {F G : List ℕ} → PatchList m w k k′ n F → PatchList m w l l′ o G → (n ≡ o) × (F ≡ G)
+      × (table (patchAt k′) n ≡ table (patchAt l′) o)
   lists-equal {k} {k′} {l} {l′} {n} {o} {F} {G} a b =
       let e = list-number a b in (
         e,

@@ -49,7 +49,8 @@ module _ {m : List ℕ} {w h : ℕ} (g : Sized m w h) (s k l s′ k′ l′ : Li
         ordered = λ i j b c. v .ordered i j b (omega (arith, many));
         records = λ j b. subst (PatchOf m w (at (v .firsts) j)) (is j b) (v .records j (omega (arith, many)));
         every = λ q x. let y = v .every q (seen-all v q x) in (y .0, omega (arith, y .1, many), y .2);
-        areas = total-same-f (λ j. patchAt l′ j .area) (λ j. getD (table (patchAt l′) n) j none .area) n (λ j b. ap (λ (t : Blob). t .area) (sym (is j b))) ∙ ap (total (λ j. getD (table (patchAt l′) n) j none .area) one) (sym many) ∙ areas-ink v;
+        areas = total-same-f (λ j. patchAt l′ j .area) (λ j. getD (table (patchAt l′) n) j none .area) n (λ j b. ap (λ (t : Blob). t .area)
+            (sym (is j b))) ∙ ap (total (λ j. getD (table (patchAt l′) n) j none .area) one) (sym many) ∙ areas-ink v;
         few = omega (arith, scan-half v, many);
         rest = rest;
       }

@@ -7,7 +7,8 @@ use Rattle.base.specs.Loops.{table, filled}
 use Rattle.blobs.specs.Patches.{ink, patchAt, Waited, PatchList}
 use Rattle.blobs.specs.Stack.{scanAll, mostWaiting}
 
--- of a mask m, w by h: marks s, waiting list k and records l at entry, those at exit, n records, and the most pixels that waited
+-- of a mask m, w by h: marks s, waiting list k and records l at entry, those at exit, n records, and the most pixels
+-- that waited
 pub record Labels (m : List ℕ) (w h : ℕ) (s k l s′ k′ l′ : List ℕ) (n most : ℕ) : Type 0 where
   -- "marks become 1 where dark and 0 elsewhere"; entries past w·h are unchanged
   pub marks : s′ ≡ filled (ink m) (w * h) s

@@ -3,4 +3,4 @@ pub mod Patches
 pub mod Stack
 pub mod Ready
 pub mod Labels
-pub mod Doors
+pub mod Contracts

@@ -1,5 +1,5 @@
--- Patches of dark pixels (document 01, "Patches"). A mask is the list of its pixels in raster order, w to a row: pixel p stands in column p % w and
--- row p / w. Assumes nothing.
+-- Patches of dark pixels (document 01, "Patches"). A mask is the list of its pixels in raster order, w to a row:
+-- pixel p stands in column p % w and row p / w. Assumes nothing.
 use Prim.Native.Nat.{ℕ, zero, suc, _+_, _*_, _/_, _%_, _≤_, _<_, min}
 use mathlib.Core.Path.{_≡_}
 use mathlib.Core.List.{List}
@@ -48,8 +48,8 @@ column w q = q % w
 abbrev pub row : ℕ → ℕ → ℕ
 row w q = q / w
 
--- "A patch is a whole class." "Each record has area, sum of x, sum of y, and box x0, y0, x1, y1." t is the record of the
--- class of the pixel a
+-- "A patch is a whole class." "Each record has area, sum of x, sum of y, and box x0, y0, x1, y1." t is the record of
+-- the class of the pixel a
 pub record PatchOf (m : List ℕ) (w a : ℕ) (t : Blob) : Type 0 where
   pub marks : ℕ → ℕ
   pub marked : Marks marks (Joined m w a)
@@ -91,9 +91,11 @@ patchAt l j =
 unfoldable pub stored : List ℕ → ℕ → Blob → List ℕ
 stored l j b =
     let i = recordLength * j in
-    set (set (set (set (set (set (set l i (b .area)) (i + 1) (b .sx)) (i + 2) (b .sy)) (i + 3) (b .x0)) (i + 4) (b .y0)) (i + 5) (b .x1)) (i + 6) (b .y1)
+    set (set (set (set (set (set (set l i (b .area)) (i + 1) (b .sx)) (i + 2) (b .sy)) (i + 3) (b .x0)) (i + 4)
+    (b .y0)) (i + 5) (b .x1)) (i + 6) (b .y1)
 
--- "Labelling also reports the highest number of pixels waiting; free, but 0 without dark pixels and otherwise from 1 to the largest area"
+-- "Labelling also reports the highest number of pixels waiting; free, but 0 without dark pixels and otherwise from 1
+-- to the largest area"
 abbrev pub Waited : List ℕ → ℕ → ℕ → Type 0
 Waited l n deep = ((n ≡ 0) × (deep ≡ 0)) ⊎ ((1 ≤ deep) × ((j : ℕ) × (j < n) × (deep ≤ patchAt l j .area)))
 

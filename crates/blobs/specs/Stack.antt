@@ -1,6 +1,7 @@
--- The Rust's search for patches as functions on values (geometry.rs, `label_blobs`): of the pixels waiting the newest is taken first; its neighbours
--- go on left, right, up, down, where they are dark and not yet marked, and are marked as they go on. So marks, records and the most pixels that wait
--- are functions of the mask. What the records mean is in Patches; that they are these records is proved (proofs/Floods, proofs/Scans). Assumes nothing.
+-- The Rust's search for patches as functions on values (geometry.rs, `label_blobs`): of the pixels waiting the newest
+-- is taken first; its neighbours go on left, right, up, down, where they are dark and not yet marked, and are marked
+-- as they go on. So marks, records and the most pixels that wait are functions of the mask. What the records mean is
+-- in Patches; that they are these records is proved (proofs/Floods, proofs/Scans). Assumes nothing.
 use Prim.Native.Nat.{ℕ, zero, suc, _+_, _-_, _/_, _%_, min, max}
 use mathlib.Core.Bool.{cond}
 use mathlib.Core.List.{List, [], _∷_, _++_}
@@ -25,24 +26,25 @@ stackOf k (suc t) = getD k t 0 ∷ stackOf k t
 -- ---- the four neighbours
 
 -- the pixel q goes on where it is dark and not yet marked
-unfoldable pub look : List ℕ → ℕ → Marking → Marking
-look m q a = cond (eqb (getD m q 0) 0) a (cond (eqb (getD (a .seen) q 0) 0) (marking (set (a .seen) q 1) (q ∷ a .waiting)) a)
+unfoldable pub visit : List ℕ → ℕ → Marking → Marking
+visit m q a =
+    cond (eqb (getD m q 0) 0) a (cond (eqb (getD (a .seen) q 0) 0) (marking (set (a .seen) q 1) (q ∷ a .waiting)) a)
 
 -- the neighbours of p: left, right, up, down (the mask's length is that of whole rows of w)
-unfoldable pub lookLeft : List ℕ → ℕ → ℕ → Marking → Marking
-lookLeft m w p a = cond (ltb 0 (p % w)) (look m (p - 1) a) a
+unfoldable pub visitLeft : List ℕ → ℕ → ℕ → Marking → Marking
+visitLeft m w p a = cond (ltb 0 (p % w)) (visit m (p - 1) a) a
 
-unfoldable pub lookRight : List ℕ → ℕ → ℕ → Marking → Marking
-lookRight m w p a = cond (ltb (p % w + 1) w) (look m (p + 1) a) a
+unfoldable pub visitRight : List ℕ → ℕ → ℕ → Marking → Marking
+visitRight m w p a = cond (ltb (p % w + 1) w) (visit m (p + 1) a) a
 
-unfoldable pub lookUp : List ℕ → ℕ → ℕ → Marking → Marking
-lookUp m w p a = cond (leb w p) (look m (p - w) a) a
+unfoldable pub visitUp : List ℕ → ℕ → ℕ → Marking → Marking
+visitUp m w p a = cond (leb w p) (visit m (p - w) a) a
 
-unfoldable pub lookDown : List ℕ → ℕ → ℕ → Marking → Marking
-lookDown m w p a = cond (ltb (p + w) (length m)) (look m (p + w) a) a
+unfoldable pub visitDown : List ℕ → ℕ → ℕ → Marking → Marking
+visitDown m w p a = cond (ltb (p + w) (length m)) (visit m (p + w) a) a
 
 unfoldable pub spread : List ℕ → ℕ → ℕ → Marking → Marking
-spread m w p a = lookDown m w p (lookUp m w p (lookRight m w p (lookLeft m w p a)))
+spread m w p a = visitDown m w p (visitUp m w p (visitRight m w p (visitLeft m w p a)))
 
 -- ---- one patch
 
@@ -69,7 +71,8 @@ pub record Flooding : Type 0 where
 abbrev pub flooding : List ℕ → List ℕ → Blob → ℕ → Flooding
 flooding s k b d = record { seen = s; waiting = k; blob = b; most = d }
 
--- no pixel counted; the box starts at the pixel a (in the Rust at the ends of the number range: after a's own turn the two are equal)
+-- no pixel counted; the box starts at the pixel a (in the Rust at the ends of the number range: after a's own turn
+-- the two are equal)
 unfoldable pub noBlob : ℕ → ℕ → Blob
 noBlob w a = record { area = 0; sx = 0; sy = 0; x0 = a % w; y0 = a / w; x1 = a % w; y1 = a / w }
 
@@ -84,12 +87,12 @@ take m w f (p ∷ k) =
     let a = spread m w p (marking (f .seen) k) in
     flooding (a .seen) (a .waiting) (grow (f .blob) (p % w) (p / w)) (max (f .most) (length (a .waiting)))
 
-unfoldable pub turn : List ℕ → ℕ → ℕ → Flooding → Flooding
-turn m w i f = take m w f (f .waiting)
+unfoldable pub floodStep : List ℕ → ℕ → ℕ → Flooding → Flooding
+floodStep m w i f = take m w f (f .waiting)
 
 -- a pixel goes on once, so as many turns as pixels are enough
 unfoldable pub flood : List ℕ → ℕ → ℕ → List ℕ → Flooding
-flood m w a s = turns (length m) (turn m w) (begun w a s)
+flood m w a s = turns (length m) (floodStep m w) (begun w a s)
 
 -- ---- all patches
 

@@ -6,7 +6,8 @@ ghost use Prim.Native.Nat.{ℕ, _+_, _*_, _/_, _%_, _≤_, _<_, _^_, min, max};
 ghost use lib.ListN.{length, getD, drop, replicate};
 ghost use Rattle.base.specs.Loops.{table, turns};
 ghost use Rattle.blobs.specs.Patches.{PatchOf, recordLength, patchAt, stored};
-ghost use Rattle.blobs.specs.Stack.{marking, stackOf, look, lookLeft, lookRight, lookUp, lookDown, spread, grow, noBlob, flooding, flood, scanned, scan, unmarked};
+ghost use Rattle.blobs.specs.Stack.{marking, stackOf, visit, visitLeft, visitRight, visitUp, visitDown};
+ghost use Rattle.blobs.specs.Stack.{spread, grow, noBlob, flooding, flood, scanned, scan, unmarked};
 ghost use Rattle.blobs.specs.Ready.{Stacked, Pixel, Ready, Sized};
 ghost use Rattle.blobs.specs.Labels.{Labels};
 use super::Blob;
@@ -41,11 +42,12 @@ fn most(a: usize, b: usize) -> usize
     if a < b { b } else { a }
 }
 
-// Looks at the pixel q: where it is dark and not yet marked, it is marked and goes on the stack.
-fn look(mask: &[u8], seen: &mut [u8], waiting: &mut [u32], top: usize, q: usize) -> usize
+// Visits the pixel q: where it is dark and not yet marked, it is marked and goes on the stack.
+fn visit(mask: &[u8], seen: &mut [u8], waiting: &mut [u32], top: usize, q: usize) -> usize
     requires { ⌜ Stacked (now mask) (now seen) (now waiting) top ⌝ }
     requires { ⌜ (q < length (now mask)) × (length (now mask) ≤ 16777216) ⌝ }
-    ensures { λ r. ⌜ marking (now (seen .exit)) (stackOf (now (waiting .exit)) r) ≡ look (now (mask .entry)) q (marking (now (seen .entry)) (stackOf (now (waiting .entry)) top)) ⌝ }
+    ensures { λ r. ⌜ marking (now (seen .exit)) (stackOf (now (waiting .exit)) r) ≡ visit (now (mask .entry)) q
+        (marking (now (seen .entry)) (stackOf (now (waiting .entry)) top)) ⌝ }
 {
     if mask[q] == 0 {
         return top;
@@ -59,7 +61,7 @@ fn look(mask: &[u8], seen: &mut [u8], waiting: &mut [u32], top: usize, q: usize)
 }
 
 // The same for the pixel left of p, whose column is x.
-fn look_left(
+fn visit_left(
     mask: &[u8],
     seen: &mut [u8],
     waiting: &mut [u32],
@@ -70,16 +72,17 @@ fn look_left(
 ) -> usize
     requires { ⌜ Stacked (now mask) (now seen) (now waiting) top ⌝ }
     requires { ⌜ Pixel (now mask) w p × (x ≡ p % w) ⌝ }
-    ensures { λ r. ⌜ marking (now (seen .exit)) (stackOf (now (waiting .exit)) r) ≡ lookLeft (now (mask .entry)) w p (marking (now (seen .entry)) (stackOf (now (waiting .entry)) top)) ⌝ }
+    ensures { λ r. ⌜ marking (now (seen .exit)) (stackOf (now (waiting .exit)) r) ≡ visitLeft (now (mask .entry)) w
+        p (marking (now (seen .entry)) (stackOf (now (waiting .entry)) top)) ⌝ }
 {
     if x > 0 {
-        return look(mask, seen, waiting, top, p - 1);
+        return visit(mask, seen, waiting, top, p - 1);
     }
     top
 }
 
 // Right of it.
-fn look_right(
+fn visit_right(
     mask: &[u8],
     seen: &mut [u8],
     waiting: &mut [u32],
@@ -90,16 +93,17 @@ fn look_right(
 ) -> usize
     requires { ⌜ Stacked (now mask) (now seen) (now waiting) top ⌝ }
     requires { ⌜ Pixel (now mask) w p × (x ≡ p % w) ⌝ }
-    ensures { λ r. ⌜ marking (now (seen .exit)) (stackOf (now (waiting .exit)) r) ≡ lookRight (now (mask .entry)) w p (marking (now (seen .entry)) (stackOf (now (waiting .entry)) top)) ⌝ }
+    ensures { λ r. ⌜ marking (now (seen .exit)) (stackOf (now (waiting .exit)) r) ≡ visitRight (now (mask .entry)) w
+        p (marking (now (seen .entry)) (stackOf (now (waiting .entry)) top)) ⌝ }
 {
     if x + 1 < w {
-        return look(mask, seen, waiting, top, p + 1);
+        return visit(mask, seen, waiting, top, p + 1);
     }
     top
 }
 
 // Above it.
-fn look_up(
+fn visit_up(
     mask: &[u8],
     seen: &mut [u8],
     waiting: &mut [u32],
@@ -109,10 +113,11 @@ fn look_up(
 ) -> usize
     requires { ⌜ Stacked (now mask) (now seen) (now waiting) top ⌝ }
     requires { ⌜ Pixel (now mask) w p ⌝ }
-    ensures { λ r. ⌜ marking (now (seen .exit)) (stackOf (now (waiting .exit)) r) ≡ lookUp (now (mask .entry)) w p (marking (now (seen .entry)) (stackOf (now (waiting .entry)) top)) ⌝ }
+    ensures { λ r. ⌜ marking (now (seen .exit)) (stackOf (now (waiting .exit)) r) ≡ visitUp (now (mask .entry)) w p
+        (marking (now (seen .entry)) (stackOf (now (waiting .entry)) top)) ⌝ }
 {
     if p >= w {
-        return look(mask, seen, waiting, top, p - w);
+        return visit(mask, seen, waiting, top, p - w);
     }
     top
 }
@@ -126,7 +131,7 @@ fn below(w: usize, p: usize) -> usize
 }
 
 // Below it.
-fn look_down(
+fn visit_down(
     mask: &[u8],
     seen: &mut [u8],
     waiting: &mut [u32],
@@ -136,11 +141,12 @@ fn look_down(
 ) -> usize
     requires { ⌜ Stacked (now mask) (now seen) (now waiting) top ⌝ }
     requires { ⌜ Pixel (now mask) w p ⌝ }
-    ensures { λ r. ⌜ marking (now (seen .exit)) (stackOf (now (waiting .exit)) r) ≡ lookDown (now (mask .entry)) w p (marking (now (seen .entry)) (stackOf (now (waiting .entry)) top)) ⌝ }
+    ensures { λ r. ⌜ marking (now (seen .exit)) (stackOf (now (waiting .exit)) r) ≡ visitDown (now (mask .entry)) w
+        p (marking (now (seen .entry)) (stackOf (now (waiting .entry)) top)) ⌝ }
 {
     if p + w < mask.len() {
         let q = below(w, p);
-        return look(mask, seen, waiting, top, q);
+        return visit(mask, seen, waiting, top, q);
     }
     top
 }
@@ -157,12 +163,13 @@ fn spread(
 ) -> usize
     requires { ⌜ Stacked (now mask) (now seen) (now waiting) top ⌝ }
     requires { ⌜ Pixel (now mask) w p × (x ≡ p % w) ⌝ }
-    ensures { λ r. ⌜ marking (now (seen .exit)) (stackOf (now (waiting .exit)) r) ≡ spread (now (mask .entry)) w p (marking (now (seen .entry)) (stackOf (now (waiting .entry)) top)) ⌝ }
+    ensures { λ r. ⌜ marking (now (seen .exit)) (stackOf (now (waiting .exit)) r) ≡ spread (now (mask .entry)) w p
+        (marking (now (seen .entry)) (stackOf (now (waiting .entry)) top)) ⌝ }
 {
-    let a = look_left(mask, seen, waiting, top, w, p, x);
-    let b = look_right(mask, seen, waiting, a, w, p, x);
-    let c = look_up(mask, seen, waiting, b, w, p);
-    look_down(mask, seen, waiting, c, w, p)
+    let a = visit_left(mask, seen, waiting, top, w, p, x);
+    let b = visit_right(mask, seen, waiting, a, w, p, x);
+    let c = visit_up(mask, seen, waiting, b, w, p);
+    visit_down(mask, seen, waiting, c, w, p)
 }
 
 // The record with one pixel more.
@@ -206,7 +213,8 @@ fn no_blob(w: usize, a: usize) -> Blob
 // Marks the patch of the pixel a, and measures it.
 fn flood(mask: &[u8], seen: &mut [u8], waiting: &mut [u32], w: usize, a: usize) -> Flooded
     requires { ⌜ Ready (now mask) w (now seen) a × (length (now waiting) ≡ length (now mask)) ⌝ }
-    ensures { λ f. ⌜ flooding (now (seen .exit)) [] (f .blob) (f .waiting) ≡ flood (now (mask .entry)) w a (now (seen .entry)) ⌝ }
+    ensures { λ f. ⌜ flooding (now (seen .exit)) [] (f .blob) (f .waiting) ≡ flood (now (mask .entry)) w a
+        (now (seen .entry)) ⌝ }
     ensures { λ f. ⌜ PatchOf (now (mask .entry)) w a (f .blob) ⌝ }
 {
     let mut blob = no_blob(w, a);
@@ -283,10 +291,15 @@ fn scan(
     i: usize,
     c: Labelled,
 ) -> Labelled
-    requires { ⌜ Sized (now mask) w h × (length (now waiting) ≡ length (now mask)) × (recordLength * ((length (now mask) + 1) / 2) ≤ length (now patches)) × (i < length (now mask)) ⌝ }
-    requires { ⌜ scanned (now seen) (table (patchAt (now patches)) (c .patches)) (c .waiting) ≡ turns i (scan (now mask) w) (unmarked (now mask)) ⌝ }
-    ensures { λ r. ⌜ scanned (now (seen .exit)) (table (patchAt (now (patches .exit))) (r .patches)) (r .waiting) ≡ scan (now (mask .entry)) w i (scanned (now (seen .entry)) (table (patchAt (now (patches .entry))) (c .patches)) (c .waiting)) ⌝ }
-    ensures { λ r. ⌜ (c .patches ≤ r .patches) × (drop (recordLength * r .patches) (now (patches .exit)) ≡ drop (recordLength * r .patches) (now (patches .entry))) ⌝ }
+    requires { ⌜ Sized (now mask) w h × (length (now waiting) ≡ length (now mask))
+        × (recordLength * ((length (now mask) + 1) / 2) ≤ length (now patches)) × (i < length (now mask)) ⌝ }
+    requires { ⌜ scanned (now seen) (table (patchAt (now patches)) (c .patches)) (c .waiting)
+        ≡ turns i (scan (now mask) w) (unmarked (now mask)) ⌝ }
+    ensures { λ r. ⌜ scanned (now (seen .exit)) (table (patchAt (now (patches .exit))) (r .patches)) (r .waiting)
+        ≡ scan (now (mask .entry)) w i (scanned (now (seen .entry)) (table (patchAt (now (patches .entry)))
+        (c .patches)) (c .waiting)) ⌝ }
+    ensures { λ r. ⌜ (c .patches ≤ r .patches) × (drop (recordLength * r .patches) (now (patches .exit))
+        ≡ drop (recordLength * r .patches) (now (patches .entry))) ⌝ }
 {
     if mask[i] == 0 {
         return c;
@@ -314,8 +327,11 @@ fn label_exact(
     waiting: &mut [u32],
     patches: &mut [u64],
 ) -> Labelled
-    requires { ⌜ Sized (now mask) w h × (length (now seen) ≡ w * h) × (length (now waiting) ≡ w * h) × (recordLength * ((w * h + 1) / 2) ≤ length (now patches)) ⌝ }
-    ensures { λ r. ⌜ Labels (now (mask .entry)) w h (now (seen .entry)) (now (waiting .entry)) (now (patches .entry)) (now (seen .exit)) (now (waiting .exit)) (now (patches .exit)) (r .patches) (r .waiting) ⌝ }
+    requires { ⌜ Sized (now mask) w h × (length (now seen) ≡ w * h) × (length (now waiting) ≡ w * h)
+        × (recordLength * ((w * h + 1) / 2) ≤ length (now patches)) ⌝ }
+    ensures { λ r. ⌜ Labels (now (mask .entry)) w h (now (seen .entry)) (now (waiting .entry))
+        (now (patches .entry)) (now (seen .exit)) (now (waiting .exit)) (now (patches .exit)) (r .patches)
+        (r .waiting) ⌝ }
 {
     clear(seen);
     let mut c = Labelled {
@@ -340,8 +356,11 @@ pub fn label(
     waiting: &mut [u32],
     patches: &mut [u64],
 ) -> Labelled
-    requires { ⌜ Sized (now mask) w h × (w * h ≤ length (now seen)) × (w * h ≤ length (now waiting)) × (recordLength * ((w * h + 1) / 2) ≤ length (now patches)) ⌝ }
-    ensures { λ r. ⌜ Labels (now (mask .entry)) w h (now (seen .entry)) (now (waiting .entry)) (now (patches .entry)) (now (seen .exit)) (now (waiting .exit)) (now (patches .exit)) (r .patches) (r .waiting) ⌝ }
+    requires { ⌜ Sized (now mask) w h × (w * h ≤ length (now seen)) × (w * h ≤ length (now waiting))
+        × (recordLength * ((w * h + 1) / 2) ≤ length (now patches)) ⌝ }
+    ensures { λ r. ⌜ Labels (now (mask .entry)) w h (now (seen .entry)) (now (waiting .entry))
+        (now (patches .entry)) (now (seen .exit)) (now (waiting .exit)) (now (patches .exit)) (r .patches)
+        (r .waiting) ⌝ }
 {
     let n = w * h;
     label_exact(mask, w, h, &mut seen[..n], &mut waiting[..n], patches)

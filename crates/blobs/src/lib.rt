@@ -4,7 +4,7 @@ pub mod internal; // internal.rt: labelling without the tests, for the layers ab
 use frame::Verdict;
 ghost use mathlib.Core.Path.{_≡_};
 ghost use Rattle.frame.specs.Refusals.{lowestOf};
-ghost use Rattle.blobs.specs.Doors.{patchTests, Labelling};
+ghost use Rattle.blobs.specs.Contracts.{patchTests, Labelling};
 
 // The record of a patch (document 01's patch record).
 pub struct Blob {
@@ -57,7 +57,9 @@ pub fn label_blobs(
     waiting: &mut [u32],
     patches: &mut [u64],
 ) -> LabelAnswer
-    ensures { λ r. ⌜ Labelling (now (mask .entry)) w h (now (seen .entry)) (now (waiting .entry)) (now (patches .entry)) (now (seen .exit)) (now (waiting .exit)) (now (patches .exit)) (r .verdict) (r .patches) (r .waiting) ⌝ }
+    ensures { λ r. ⌜ Labelling (now (mask .entry)) w h (now (seen .entry)) (now (waiting .entry))
+        (now (patches .entry)) (now (seen .exit)) (now (waiting .exit)) (now (patches .exit)) (r .verdict)
+        (r .patches) (r .waiting) ⌝ }
 {
     let n = refusal(w, h, mask.len(), seen.len(), waiting.len(), patches.len());
     if n != 0 {

@@ -14,12 +14,13 @@ use Rattle.blobs.specs.Patches.{patchAt}
 use Rattle.candidates.specs.Agreement.{SameLook}
 use Rattle.candidates.specs.Areas.{Areas, pixels, integralLength}
 use Rattle.candidates.specs.Bounds.{Ready}
-use Rattle.candidates.specs.Doors.{Looked}
+use Rattle.candidates.specs.Contracts.{Looked}
 use Rattle.candidates.specs.Ring.{candidateAt, CandidateList}
 use Rattle.candidates.proofs.Unique.{list-number, list-records, candidates-number, candidates-records}
 
 -- a plane, from two areas that held other things
-plane : {A : Type 0} (g : ℕ → A) (n : ℕ) (d : A) (x x′ : List A) {y y′ : List A} → y ≡ filled g n x → y′ ≡ filled g n x′ → n ≤ length x → n ≤ length x′ → take n y ≡ take n y′
+plane : {A : Type 0} (g : ℕ → A) (n : ℕ) (d : A) (x x′ : List A) {y y′ : List A} → y ≡ filled g n x → y′ ≡ filled g n x′ → n ≤ length x
+    → n ≤ length x′ → take n y ≡ take n y′
 plane g n d x x′ p p′ l l′ = ap (take n) p ∙ take-filled g n d x l ∙ sym (ap (take n) p′ ∙ take-filled g n d x′ l′)
 
 module _ (img : Image) (f : FrameSpec) (a b a′ b′ : Areas) (n k deep n′ k′ deep′ : ℕ) (h : Looked img f a b n k deep) (h′ : Looked img f a′ b′ n′ k′ deep′) where
@@ -34,7 +35,8 @@ module _ (img : Image) (f : FrameSpec) (a b a′ b′ : Areas) (n k deep n′ k�
 
   others : CandidateList (maskPlane img f) (lumaPlane img) (img .w) (img .h) (patchAt (b′ .patches)) n (a′ .candidates) (a′ .«blob_index») (b′ .candidates) (b′ .«blob_index») k′
   others =
-      subst (λ z. CandidateList (maskPlane img f) (lumaPlane img) (img .w) (img .h) (patchAt (b′ .patches)) z (a′ .candidates) (a′ .«blob_index») (b′ .candidates) (b′ .«blob_index») k′) (sym same-patches) (h′ .candidates)
+      subst (λ z. CandidateList (maskPlane img f) (lumaPlane img) (img .w) (img .h) (patchAt (b′ .patches)) z (a′ .candidates)
+      (a′ .«blob_index») (b′ .candidates) (b′ .«blob_index») k′) (sym same-patches) (h′ .candidates)
 
   pub same-candidates : k ≡ k′
   same-candidates = candidates-number (maskPlane img f) (lumaPlane img) (img .w) (img .h) (h .candidates) others same-patch

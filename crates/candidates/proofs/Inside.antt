@@ -56,7 +56,8 @@ third false false true d e = e
 third false false false d e = refl
 
 -- the pixel of a place in the picture
-pub pixel-in : (w h : ℕ) (x y : Float) → 1 ≤ w → w ≤ 4096 → 1 ≤ h → h ≤ 4096 → outside w h x y ≡ false → (asUsize x < w) × (asUsize y < h) × (asUsize y * w + asUsize x < w * h)
+pub pixel-in : (w h : ℕ) (x y : Float) → 1 ≤ w → w ≤ 4096 → 1 ≤ h → h ≤ 4096 → outside w h x y ≡ false → (asUsize x < w) × (asUsize y < h)
+    × (asUsize y * w + asUsize x < w * h)
 unfolding outside
 pixel-in w h x y w1 w2 h1 h2 e =
     let cx : asUsize x < w = cut-below w x w1 w2 (third (lt x (f64 0)) (lt y (f64 0)) (le (f64 w) x) (le (f64 h) y) e) in
@@ -69,7 +70,8 @@ pub record Pixel (w h x′ y′ : ℕ) : Type 0 where
   pub number : y′ * w + x′ < 2 ^ 32
   pub within : y′ * w + x′ < w * h
 
-pub pixel : (w h : ℕ) (x y : Float) (out : Bool) (x′ y′ : ℕ) → 1 ≤ w → w ≤ 4096 → 1 ≤ h → h ≤ 4096 → out ≡ outside w h x y → out ≡ false → x′ ≡ asUsize x → y′ ≡ asUsize y → Pixel w h x′ y′
+pub pixel : (w h : ℕ) (x y : Float) (out : Bool) (x′ y′ : ℕ) → 1 ≤ w → w ≤ 4096 → 1 ≤ h → h ≤ 4096 → out ≡ outside w h x y → out ≡ false
+    → x′ ≡ asUsize x → y′ ≡ asUsize y → Pixel w h x′ y′
 pixel w h x y out x′ y′ w1 w2 h1 h2 e f ex ey =
     let p = pixel-in w h x y w1 w2 h1 h2 (sym e ∙ f) in
     let q : y′ * w + x′ < w * h = subst (λ z. z * w + x′ < w * h) (sym ey) (subst (λ z. asUsize y * w + z < w * h) (sym ex) (p .2)) in

@@ -14,7 +14,7 @@ use Rattle.frame.proofs.Tests.{either}
 use Rattle.frame.specs.declared.Point.{Point}
 use Rattle.blobs.specs.Patches.{total, one, ink, patchAt}
 use Rattle.blobs.specs.declared.Blob.{Blob}
-use Rattle.candidates.specs.Ring.{passes, ringScore, centre, sizeOf, ringOf, candidateOf, centerAt, candidateAt, CandidateList}
+use Rattle.candidates.specs.Ring.{passes, ringScore, center, sizeOf, ringOf, candidateOf, centerAt, candidateAt, CandidateList}
 use Rattle.candidates.specs.Bounds.{Listable, Storable, storedRecord, storedPlace, storedCount}
 use Rattle.candidates.specs.declared.Ring.{Ring}
 use Rattle.candidates.specs.declared.Ring.the-variants.{Passed, Failed}
@@ -66,7 +66,7 @@ module _ (m : List ℕ) (luma : List Float) (w h : ℕ) (t : ℕ → Blob) where
       p′ = set p k n
 
       abbrev c′ : List Float
-      c′ = four-set c (4 * k) (centre (t n) .x) (centre (t n) .y) (ringScore m luma w h (t n)) (sizeOf (t n)) nan room
+      c′ = four-set c (4 * k) (center (t n) .x) (center (t n) .y) (ringScore m luma w h (t n)) (sizeOf (t n)) nan room
 
       at-new : (i : ℕ) → i ≡ k → getD p′ i 0 ≡ n
       at-new i e = ap (λ z. getD p′ z 0) e ∙ getD-set-same p k n 0 place
@@ -78,8 +78,8 @@ module _ (m : List ℕ) (luma : List Float) (w h : ℕ) (t : ℕ → Blob) where
       unfolding candidateAt centerAt candidateOf
       record-new =
           let i = 4 * k in
-          let x = centre (t n) .x in
-          let y = centre (t n) .y in
+          let x = center (t n) .x in
+          let y = center (t n) .y in
           let s = ringScore m luma w h (t n) in
           let z = sizeOf (t n) in
           let e0 = four-0 c i x y s z nan room in
@@ -92,8 +92,8 @@ module _ (m : List ℕ) (luma : List Float) (w h : ℕ) (t : ℕ → Blob) where
       record-old : (i : ℕ) → i < k → candidateAt c′ p′ i ≡ candidateAt c p i
       unfolding candidateAt centerAt
       record-old i l =
-          let x = centre (t n) .x in
-          let y = centre (t n) .y in
+          let x = center (t n) .x in
+          let y = center (t n) .y in
           let s = ringScore m luma w h (t n) in
           let z = sizeOf (t n) in
           let e0 = four-before c (4 * k) x y s z nan room (4 * i) (omega arith) in
@@ -110,7 +110,7 @@ module _ (m : List ℕ) (luma : List Float) (w h : ℕ) (t : ℕ → Blob) where
       list-added : CandidateList m luma w h t (n + 1) c₀ p₀ c′ p′ (k + 1)
       list-added =
           record {
-            c-long = four-long c (4 * k) (centre (t n) .x) (centre (t n) .y) (ringScore m luma w h (t n)) (sizeOf (t n)) nan room ∙ H .c-long;
+            c-long = four-long c (4 * k) (center (t n) .x) (center (t n) .y) (ringScore m luma w h (t n)) (sizeOf (t n)) nan room ∙ H .c-long;
             p-long = length-set p k n ∙ H .p-long;
             listed = λ i l. ⊎-elim
                 (λ e. subst (λ z. z < n + 1) (sym (at-new i e)) (omega arith))
@@ -136,7 +136,7 @@ module _ (m : List ℕ) (luma : List Float) (w h : ℕ) (t : ℕ → Blob) where
             c-rest =
                 let e : 4 * k + 4 ≡ 4 * (k + 1) = omega arith in
                 subst (λ z. drop z c′ ≡ drop z c₀) e
-                (four-rest c (4 * k) (centre (t n) .x) (centre (t n) .y) (ringScore m luma w h (t n)) (sizeOf (t n)) nan room
+                (four-rest c (4 * k) (center (t n) .x) (center (t n) .y) (ringScore m luma w h (t n)) (sizeOf (t n)) nan room
                 ∙ rest-of c c₀ (4 * k) 4 (H .c-rest));
             p-rest = drop-set-lt (k + 1) p k n (omega arith) ∙ rest-of p p₀ k 1 (H .p-rest);
           }
@@ -149,7 +149,7 @@ module _ (m : List ℕ) (luma : List Float) (w h : ℕ) (t : ℕ → Blob) where
   unfolding storedCount storedRecord storedPlace
   list-turn n c₀ p₀ c p k c′ p′ k′ ring H e r ek ec ep = ⊎-elim
       (λ y.
-      let q : ring ≡ Passed (centre (t n)) (ringScore m luma w h (t n)) (sizeOf (t n)) = e ∙ ring-yes m luma w h (t n) y in
+      let q : ring ≡ Passed (center (t n)) (ringScore m luma w h (t n)) (sizeOf (t n)) = e ∙ ring-yes m luma w h (t n) y in
       let o = r .room (λ f. let z : _≡_ {A = ℕ} 0 1 = cc in omega arith) in
       subst (λ z. CandidateList m luma w h t (n + 1) c₀ p₀ c′ p′ z) (sym (ek ∙ ap (λ z. storedCount z k) q))
       (subst (λ z. CandidateList m luma w h t (n + 1) c₀ p₀ c′ z (k + 1)) (sym (ep ∙ ap (λ z. storedPlace z n k p) q))
@@ -206,7 +206,8 @@ module _ (w h : ℕ) (m : List ℕ) (luma : List Float) (l : List ℕ) (n : ℕ)
         count-held = omega arith;
         room = λ f. ⊎-elim
             (λ y.
-            let o : 32 * (k + 1) ≤ areas m luma w h (patchAt l) (j + 1) = count-turn m luma w h (patchAt l) j k (k + 1) ring e (ap (λ z. storedCount z k) (sym (e ∙ ring-yes m luma w h (patchAt l j) y))) b in
+            let o : 32 * (k + 1) ≤ areas m luma w h (patchAt l) (j + 1) = count-turn m luma w h (patchAt l) j k (k + 1) ring e
+            (ap (λ z. storedCount z k) (sym (e ∙ ring-yes m luma w h (patchAt l j) y))) b in
             (omega arith, omega arith))
             (λ y. absurd (f (e ∙ ring-no m luma w h (patchAt l j) y)))
             (either (passes m luma w h (patchAt l j)));

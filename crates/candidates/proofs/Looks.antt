@@ -22,7 +22,7 @@ use Rattle.blobs.specs.declared.Blob.{Blob}
 use Rattle.candidates.specs.Ring.{CandidateList}
 use Rattle.candidates.specs.Areas.{Areas, areas, areaShort, lookTests}
 use Rattle.candidates.specs.Bounds.{PlanesHeld, Listable, Ready}
-use Rattle.candidates.specs.Doors.{Looked}
+use Rattle.candidates.specs.Contracts.{Looked}
 use Rattle.candidates.proofs.Refusing.{clear, ready-of}
 
 pub ready : (img : Image) (f : FrameSpec) (a : Areas) → lowestOf (lookTests img f a) ≡ 0 → Ready img f a
@@ -134,11 +134,13 @@ verdict-accepted n e = rw e
 pub labels-as : {m m′ : List ℕ} {w h : ℕ} {s k l s′ k′ l′ : List ℕ} {n d : ℕ} → m ≡ m′ → Labels m w h s k l s′ k′ l′ n d → Labels m′ w h s k l s′ k′ l′ n d
 labels-as {w = w} {h = h} {s = s} {k = k} {l = l} {s′ = s′} {k′ = k′} {l′ = l′} {n = n} {d = d} e L = subst (λ z. Labels z w h s k l s′ k′ l′ n d) e L
 
-pub listable-as : {m m′ : List ℕ} {u u′ : List Float} {w h : ℕ} {l : List ℕ} {n : ℕ} {c : List Float} {p : List ℕ} → m ≡ m′ → u ≡ u′ → Listable w h m′ u′ l n c p → Listable w h m u l n c p
+pub listable-as : {m m′ : List ℕ} {u u′ : List Float} {w h : ℕ} {l : List ℕ} {n : ℕ} {c : List Float} {p : List ℕ} → m ≡ m′ → u ≡ u′
+    → Listable w h m′ u′ l n c p → Listable w h m u l n c p
 listable-as {m = m} {u′ = u′} {w = w} {h = h} {l = l} {n = n} {c = c} {p = p} e d L =
     subst (λ z. Listable w h m z l n c p) (sym d) (subst (λ z. Listable w h z u′ l n c p) (sym e) L)
 
-pub candidates-as : {m m′ : List ℕ} {u u′ : List Float} {w h : ℕ} {t : ℕ → Blob} {n : ℕ} {c : List Float} {p : List ℕ} {c′ : List Float} {p′ : List ℕ} {k : ℕ} → m ≡ m′ → u ≡ u′
+pub candidates-as : {m m′ : List ℕ} {u u′ : List Float} {w h : ℕ} {t : ℕ → Blob} {n : ℕ} {c : List Float} {p : List ℕ} {c′ : List Float}
+    {p′ : List ℕ} {k : ℕ} → m ≡ m′ → u ≡ u′
     → CandidateList m u w h t n c p c′ p′ k → CandidateList m′ u′ w h t n c p c′ p′ k
 candidates-as {m′ = m′} {u = u} {w = w} {h = h} {t = t} {n = n} {c = c} {p = p} {c′ = c′} {p′ = p′} {k = k} e d L =
     subst (λ z. CandidateList m′ z w h t n c p c′ p′ k) d (subst (λ z. CandidateList z u w h t n c p c′ p′ k) e L)

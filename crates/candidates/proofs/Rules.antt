@@ -11,7 +11,7 @@ use Rattle.float.specs.Floats.{_⊗_, _⊘_, f64, d64}
 use Rattle.frame.specs.declared.Point.{Point}
 use Rattle.frame.proofs.Tests.{and-both}
 use Rattle.blobs.specs.declared.Blob.{Blob}
-use Rattle.candidates.specs.Ring.{passes, shaped, enough, ringScore, wide, high, centre, sizeOf, ringOf}
+use Rattle.candidates.specs.Ring.{passes, shaped, enough, ringScore, wide, high, center, sizeOf, ringOf}
 use Rattle.candidates.specs.declared.Ring.the-variants.{Passed, Failed}
 
 -- "Area ≥ 32"
@@ -36,7 +36,8 @@ module _ (m : List ℕ) (luma : List Float) (w h : ℕ) (t : Blob) where
   passes-area k = shaped-area w h t (and-l (shaped w h t) (enough (ringScore m luma w h t)) k)
 
   -- the answers of `candidate_of`
-  pub ring-passed : (p : Point) (s z : Float) → shaped w h t ≡ true → s ≡ ringScore m luma w h t → enough s ≡ true → p ≡ centre t → z ≡ sizeOf t → Passed p s z ≡ ringOf m luma w h t
+  pub ring-passed : (p : Point) (s z : Float) → shaped w h t ≡ true → s ≡ ringScore m luma w h t → enough s ≡ true → p ≡ center t → z
+      ≡ sizeOf t → Passed p s z ≡ ringOf m luma w h t
   unfolding ringOf passes
   ring-passed p s z a b e x y =
       (λ i. Passed (x i) (b i) (y i))
@@ -51,7 +52,7 @@ module _ (m : List ℕ) (luma : List Float) (w h : ℕ) (t : Blob) where
   ring-low s a b e = pick-no _ _ _ (ap (λ z. z && enough (ringScore m luma w h t)) a ∙ ap enough (sym b) ∙ e)
 
   -- .. and what they tell
-  pub ring-yes : passes m luma w h t ≡ true → ringOf m luma w h t ≡ Passed (centre t) (ringScore m luma w h t) (sizeOf t)
+  pub ring-yes : passes m luma w h t ≡ true → ringOf m luma w h t ≡ Passed (center t) (ringScore m luma w h t) (sizeOf t)
   unfolding ringOf
   ring-yes e = sym (pick-yes _ _ _ e)
 

@@ -82,7 +82,8 @@ module _ (m : List ℕ) (luma : List Float) (w h : ℕ) {t u : ℕ → Blob} {n 
         found = λ i l. b .every (getD p′ i 0) (a .listed i l) (subst (λ z. T (passes m luma w h z)) (same (getD p′ i 0) (a .listed i l)) (a .passing i l));
       }
 
-  module _ {c c′ d d′ : List Float} {p p′ q q′ : List ℕ} {k o : ℕ} (a : CandidateList m luma w h t n c p c′ p′ k) (b : CandidateList m luma w h u n d q d′ q′ o) (same : (j : ℕ) → j < n → t j ≡ u j) where
+  module _ {c c′ d d′ : List Float} {p p′ q q′ : List ℕ} {k o : ℕ} (a : CandidateList m luma w h t n c p c′ p′ k) (b : CandidateList m luma
+      w h u n d q d′ q′ o) (same : (j : ℕ) → j < n → t j ≡ u j) where
     other-way : Within (λ i. getD q′ i 0) (λ i. getD p′ i 0) o k
     other-way =
         record {

@@ -32,7 +32,16 @@ pub record Areas : Type 0 where
 -- the areas in the order in which a call is handed them
 abbrev pub areas : List Float → List Float → List ℕ → List ℕ → List ℕ → List ℕ → List Float → List ℕ → Areas
 areas luma integral mask seen waiting patches candidates places =
-    record { luma = luma; integral = integral; mask = mask; seen = seen; waiting = waiting; patches = patches; candidates = candidates; «blob_index» = places }
+    record {
+      luma = luma;
+      integral = integral;
+      mask = mask;
+      seen = seen;
+      waiting = waiting;
+      patches = patches;
+      candidates = candidates;
+      «blob_index» = places;
+    }
 
 abbrev pub lengthsOf : Areas → Lengths
 lengthsOf a =
@@ -47,8 +56,8 @@ lengthsOf a =
       «blob_index» = length (a .«blob_index»);
     }
 
--- "Work areas, smallest lengths": "luma, mask, visited marks and waiting list w·h entries each; integral (w+1)·(h+1); patch records ⌈w·h/2⌉; candidate
--- records ⌊w·h/32⌋"
+-- "Work areas, smallest lengths": "luma, mask, visited marks and waiting list w·h entries each; integral (w+1)·(h+1);
+-- patch records ⌈w·h/2⌉; candidate records ⌊w·h/32⌋"
 abbrev pub pixels : Image → ℕ
 pixels img = img .w * img .h
 
@@ -84,8 +93,8 @@ abbrev pub areaShort : Image → Areas → Bool
 areaShort img a = shorter (lengthsOf a) (smallest (img .w) (img .h))
 
 -- ---- the tests of a call on a picture: "The lowest number that applies is given, and each call makes the checks that
--- concern what it is handed". short: a work area of the call is too short; wrong: its canonical image is not of the right
--- length, false where it is handed none
+-- concern what it is handed". short: a work area of the call is too short; wrong: its canonical image is not of the
+-- right length, false where it is handed none
 unfoldable pub pictureTests : Image → FrameSpec → Bool → Bool → List Check
 pictureTests img f short wrong =
     check 1 (frameOutside f)

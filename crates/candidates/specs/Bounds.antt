@@ -71,7 +71,8 @@ pub record Storable (ring : Ring) (j k : ℕ) (c : List Float) (l : List ℕ) : 
   pub room : (ring ≡ Failed → ⊥) → (candidateLength * k + candidateLength ≤ length c) × (k < length l)
 
 -- the planes, the list of their patches, and areas of the smallest length or longer
-pub record Listable (w h : ℕ) (m : List ℕ) (luma : List Float) (l : List ℕ) (n : ℕ) (c : List Float) (p : List ℕ) : Type 0 where
+pub record Listable (w h : ℕ) (m : List ℕ) (luma : List Float) (l : List ℕ) (n : ℕ) (c : List Float) (p : List ℕ)
+    : Type 0 where
   pub planes : PlanesHeld w h m luma
   pub before : List ℕ
   pub firsts : List ℕ

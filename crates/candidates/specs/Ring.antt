@@ -1,4 +1,5 @@
--- The ring rule and the candidates (document 01, "Ring rule"). m is the mask and luma the luma plane of a picture w by h. Assumes nothing.
+-- The ring rule and the candidates (document 01, "Ring rule"). m is the mask and luma the luma plane of a picture w
+-- by h. Assumes nothing.
 use Prim.Native.Nat.{ℕ, _+_, _*_, _-_, _/_, _<_, min}
 use mathlib.Core.Path.{_≡_}
 use mathlib.Core.Bool.{Bool, true, false, cond, _&&_, _||_, Bool·beq}
@@ -40,15 +41,30 @@ arms t s dark =
 unfoldable pub probes : Blob → List Probe
 probes t =
     record { x = middle (t .x0) (t .x1); y = middle (t .y0) (t .y1); dark = true }
-    ∷ arms t (d64 167 1000) true ++ arms t (d64 500 1000) false ++ arms t (d64 833 1000) true ++ arms t (d64 1167 1000) false
+    ∷ arms t (d64 167 1000) true ++ arms t (d64 500 1000) false ++ arms t (d64 833 1000) true
+    ++ arms t (d64 1167 1000) false
 
 -- one probe, made at a pixel with the mask's entry e and the luma l
 abbrev pub tallied : ℕ → Float → Bool → Tally → Tally
 tallied e l dark s =
     let hit : ℕ = cond (Bool·beq (ltb 0 e) dark) 1 0 in
     cond dark
-    (record { hits = s .hits + hit; made = s .made + 1; «dark_sum» = s .«dark_sum» ⊕ l; darks = s .darks + 1; «light_sum» = s .«light_sum»; lights = s .lights })
-    (record { hits = s .hits + hit; made = s .made + 1; «dark_sum» = s .«dark_sum»; darks = s .darks; «light_sum» = s .«light_sum» ⊕ l; lights = s .lights + 1 })
+    (record {
+      hits = s .hits + hit;
+      made = s .made + 1;
+      «dark_sum» = s .«dark_sum» ⊕ l;
+      darks = s .darks + 1;
+      «light_sum» = s .«light_sum»;
+      lights = s .lights;
+    })
+    (record {
+      hits = s .hits + hit;
+      made = s .made + 1;
+      «dark_sum» = s .«dark_sum»;
+      darks = s .darks;
+      «light_sum» = s .«light_sum» ⊕ l;
+      lights = s .lights + 1;
+    })
 
 -- "those outside the picture are skipped"
 abbrev pub probeStep : List ℕ → List Float → ℕ → ℕ → Probe → Tally → Tally
@@ -63,7 +79,8 @@ probed m luma w h (p ∷ l) s = probed m luma w h l (probeStep m luma w h p s)
 abbrev pub noneMade : Tally
 noneMade = record { hits = 0; made = 0; «dark_sum» = f64 0; darks = 0; «light_sum» = f64 0; lights = 0 }
 
--- "fewer than 9, or no dark or no light probe, scores 0; likewise light mean − dark mean below 30"; else the share that agreed
+-- "fewer than 9, or no dark or no light probe, scores 0; likewise light mean − dark mean below 30"; else the share
+-- that agreed
 unfoldable pub shareOf : Tally → Float
 shareOf s =
     cond (ltb (s .made) 9 || eqb (s .darks) 0 || eqb (s .lights) 0) (f64 0)
@@ -95,13 +112,14 @@ shaped w h t =
     && (le (d64 5 10) (bw ⊘ bh) && le (bw ⊘ bh) (f64 2))
     && (le (d64 20 100) (f64 (t .area) ⊘ (bw ⊗ bh)) && le (f64 (t .area) ⊘ (bw ⊗ bh)) (d64 85 100))
 
--- "A patch passes the ring rule, and is a candidate, exactly when area, sides, aspect, fill and score all keep these bounds"
+-- "A patch passes the ring rule, and is a candidate, exactly when area, sides, aspect, fill and score all keep these
+-- bounds"
 unfoldable pub passes : List ℕ → List Float → ℕ → ℕ → Blob → Bool
 passes m luma w h t = shaped w h t && enough (ringScore m luma w h t)
 
 -- "centre x (sum of x / area + 0.5), centre y likewise"
-unfoldable pub centre : Blob → Point
-centre t = record { x = f64 (t .sx) ⊘ f64 (t .area) ⊕ d64 5 10; y = f64 (t .sy) ⊘ f64 (t .area) ⊕ d64 5 10 }
+unfoldable pub center : Blob → Point
+center t = record { x = f64 (t .sx) ⊘ f64 (t .area) ⊕ d64 5 10; y = f64 (t .sy) ⊘ f64 (t .area) ⊕ d64 5 10 }
 
 -- "size (half the sum of the box sides)"
 unfoldable pub sizeOf : Blob → Float
@@ -109,11 +127,16 @@ sizeOf t = (f64 (wide t) ⊕ f64 (high t)) ⊘ f64 2
 
 -- what `candidate_of` says of a patch
 unfoldable pub ringOf : List ℕ → List Float → ℕ → ℕ → Blob → Ring
-ringOf m luma w h t = cond (passes m luma w h t) (Passed (centre t) (ringScore m luma w h t) (sizeOf t)) Failed
+ringOf m luma w h t = cond (passes m luma w h t) (Passed (center t) (ringScore m luma w h t) (sizeOf t)) Failed
 
 -- "and, added, its patch's place in the patch list from 0"
 unfoldable pub candidateOf : List ℕ → List Float → ℕ → ℕ → ℕ → Blob → Candidate
-candidateOf m luma w h j t = record { center = centre t; score = ringScore m luma w h t; size = sizeOf t; «blob_index» = j }
+candidateOf m luma w h j t = record {
+  center = center t;
+  score = ringScore m luma w h t;
+  size = sizeOf t;
+  «blob_index» = j;
+}
 
 -- ---- the list: four floats a record, and the places beside them
 
@@ -134,7 +157,8 @@ candidateAt c places i =
     }
 
 -- the areas c and p become c′ and p′, with k candidates among n patches t
-pub record CandidateList (m : List ℕ) (luma : List Float) (w h : ℕ) (t : ℕ → Blob) (n : ℕ) (c : List Float) (p : List ℕ) (c′ : List Float) (p′ : List ℕ) (k : ℕ) : Type 0 where
+pub record CandidateList (m : List ℕ) (luma : List Float) (w h : ℕ) (t : ℕ → Blob) (n : ℕ) (c : List Float)
+    (p : List ℕ) (c′ : List Float) (p′ : List ℕ) (k : ℕ) : Type 0 where
   pub c-long : length c′ ≡ length c
   pub p-long : length p′ ≡ length p
   -- each is a patch of the list that passes

@@ -5,12 +5,14 @@ ghost use mathlib.Core.List.{[], _∷_};
 ghost use Prim.Native.Nat.{_+_, _*_, _^_, _≤_, _<_, min};
 ghost use lib.Dec.{ltb};
 ghost use lib.ListN.{length};
-ghost use Rattle.candidates.specs.Ring.{tallied, arms, shareOf, ringScore, shaped, centre, sizeOf, ringOf, CandidateList, candidateAt, centerAt};
+ghost use Rattle.candidates.specs.Ring.{tallied, arms, shareOf, ringScore, shaped, center, sizeOf};
+ghost use Rattle.candidates.specs.Ring.{ringOf, CandidateList, candidateAt, centerAt};
 ghost use Rattle.candidates.specs.Areas.{areas, smallest, shorter, pictureTests};
-ghost use Rattle.candidates.specs.Doors.{Looked};
+ghost use Rattle.candidates.specs.Contracts.{Looked};
 ghost use Rattle.frame.specs.Image.{image};
 ghost use Rattle.frame.specs.Refusals.{lowestOf};
-ghost use Rattle.candidates.specs.Bounds.{PlanesHeld, BlobHeld, Sound, Probing, storedRecord, storedPlace, storedCount, Storable, Listable, Ready};
+ghost use Rattle.candidates.specs.Bounds.{PlanesHeld, BlobHeld, Sound, Probing, storedRecord};
+ghost use Rattle.candidates.specs.Bounds.{storedPlace, storedCount, Storable, Listable, Ready};
 ghost use Rattle.blobs.specs.Patches.{patchAt};
 use super::Candidate;
 use super::Counts;
@@ -181,7 +183,7 @@ pub fn verify_bullseye(mask: &[u8], luma: &[f32], w: usize, h: usize, b: Blob) -
     };
     let cx = (b.x0 + b.x1) as f64 / 2.0;
     let cy = (b.y0 + b.y1) as f64 / 2.0;
-    let centre = probe(
+    let middle = probe(
         mask,
         luma,
         w,
@@ -193,7 +195,7 @@ pub fn verify_bullseye(mask: &[u8], luma: &[f32], w: usize, h: usize, b: Blob) -
         },
         none,
     );
-    let dot = probe_arms(mask, luma, w, h, b, 0.167, true, centre);
+    let dot = probe_arms(mask, luma, w, h, b, 0.167, true, middle);
     let white = probe_arms(mask, luma, w, h, b, 0.5, false, dot);
     let black = probe_arms(mask, luma, w, h, b, 0.833, true, white);
     share(probe_arms(mask, luma, w, h, b, 1.167, false, black))
@@ -224,7 +226,7 @@ fn shaped(w: usize, h: usize, b: Blob) -> bool
 // A patch's centre: its pixels' mean place, from pixel numbers to pixel centres.
 fn center(b: Blob) -> Point
     requires { ⌜ (b .area ≤ 2 ^ 53) × (b .sx ≤ 2 ^ 53) × (b .sy ≤ 2 ^ 53) ⌝ }
-    ensures { λ r. ⌜ r ≡ centre b ⌝ }
+    ensures { λ r. ⌜ r ≡ center b ⌝ }
 {
     let area = b.area as f64;
     Point {
@@ -260,7 +262,9 @@ pub fn candidate_of(mask: &[u8], luma: &[f32], w: usize, h: usize, blob: Blob) -
 // Writes the record of patch j where it passed, after k others, and answers their number.
 fn store(ring: Ring, j: usize, k: usize, candidates: &mut [f64], blob_index: &mut [u32]) -> usize
     requires { ⌜ Storable ring j k (now candidates) (now «blob_index») ⌝ }
-    ensures { λ r. ⌜ (r ≡ storedCount ring k) × (now (candidates .exit) ≡ storedRecord ring k (now (candidates .entry))) × (now («blob_index» .exit) ≡ storedPlace ring j k (now («blob_index» .entry))) ⌝ }
+    ensures { λ r. ⌜ (r ≡ storedCount ring k) × (now (candidates .exit)
+        ≡ storedRecord ring k (now (candidates .entry))) × (now («blob_index» .exit)
+        ≡ storedPlace ring j k (now («blob_index» .entry))) ⌝ }
 {
     match ring {
         Ring::Passed(center, score, size) => {
@@ -288,7 +292,9 @@ pub fn list(
     blob_index: &mut [u32],
 ) -> usize
     requires { ⌜ Listable w h (now mask) (now luma) (now patches) n (now candidates) (now «blob_index») ⌝ }
-    ensures { λ k. ⌜ CandidateList (now (mask .entry)) (now (luma .entry)) w h (patchAt (now (patches .entry))) n (now (candidates .entry)) (now («blob_index» .entry)) (now (candidates .exit)) (now («blob_index» .exit)) k ⌝ }
+    ensures { λ k. ⌜ CandidateList (now (mask .entry)) (now (luma .entry)) w h (patchAt (now (patches .entry))) n
+        (now (candidates .entry)) (now («blob_index» .entry)) (now (candidates .exit)) (now («blob_index» .exit))
+        k ⌝ }
 {
     let mut k: usize = 0;
     let mut j: usize = 0;
@@ -431,10 +437,13 @@ pub fn look(
     blob_index: &mut [u32],
 ) -> Counts
     requires { ⌜ Ready (image w h (now capture)) frame
-        (areas (now luma) (now integral) (now mask) (now seen) (now waiting) (now patches) (now candidates) (now «blob_index»)) ⌝ }
+        (areas (now luma) (now integral) (now mask) (now seen) (now waiting) (now patches) (now candidates)
+        (now «blob_index»)) ⌝ }
     ensures { λ r. ⌜ Looked (image w h (now (capture .entry))) frame
-        (areas (now (luma .entry)) (now (integral .entry)) (now (mask .entry)) (now (seen .entry)) (now (waiting .entry)) (now (patches .entry)) (now (candidates .entry)) (now («blob_index» .entry)))
-        (areas (now (luma .exit)) (now (integral .exit)) (now (mask .exit)) (now (seen .exit)) (now (waiting .exit)) (now (patches .exit)) (now (candidates .exit)) (now («blob_index» .exit)))
+        (areas (now (luma .entry)) (now (integral .entry)) (now (mask .entry)) (now (seen .entry))
+        (now (waiting .entry)) (now (patches .entry)) (now (candidates .entry)) (now («blob_index» .entry)))
+        (areas (now (luma .exit)) (now (integral .exit)) (now (mask .exit)) (now (seen .exit)) (now (waiting .exit))
+        (now (patches .exit)) (now (candidates .exit)) (now («blob_index» .exit)))
         (r .patches) (r .candidates) (r .waiting) ⌝ }
 {
     planes(capture, w, h, frame, luma, integral, mask);

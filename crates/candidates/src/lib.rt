@@ -6,7 +6,7 @@ use internal::look;
 use internal::refused;
 ghost use Rattle.frame.specs.Image.{image};
 ghost use Rattle.candidates.specs.Areas.{areas};
-ghost use Rattle.candidates.specs.Doors.{Listing};
+ghost use Rattle.candidates.specs.Contracts.{Listing};
 
 mod constants;
 pub mod internal;
@@ -89,8 +89,10 @@ pub fn fiducial_candidates(
     blob_index: &mut [u32],
 ) -> Listed
     ensures { λ r. ⌜ Listing (image w h (now (capture .entry))) frame
-        (areas (now (luma .entry)) (now (integral .entry)) (now (mask .entry)) (now (seen .entry)) (now (waiting .entry)) (now (patches .entry)) (now (candidates .entry)) (now («blob_index» .entry)))
-        (areas (now (luma .exit)) (now (integral .exit)) (now (mask .exit)) (now (seen .exit)) (now (waiting .exit)) (now (patches .exit)) (now (candidates .exit)) (now («blob_index» .exit)))
+        (areas (now (luma .entry)) (now (integral .entry)) (now (mask .entry)) (now (seen .entry))
+        (now (waiting .entry)) (now (patches .entry)) (now (candidates .entry)) (now («blob_index» .entry)))
+        (areas (now (luma .exit)) (now (integral .exit)) (now (mask .exit)) (now (seen .exit)) (now (waiting .exit))
+        (now (patches .exit)) (now (candidates .exit)) (now («blob_index» .exit)))
         (r .verdict) (r .patches) (r .candidates) (r .waiting) ⌝ }
 {
     let lengths = Lengths {

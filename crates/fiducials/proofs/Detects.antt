@@ -17,7 +17,7 @@ use Rattle.mask.specs.Mask.{maskPlane}
 use Rattle.blobs.specs.Patches.{patchAt}
 use Rattle.candidates.specs.Areas.{Areas, areaShort, lookTests}
 use Rattle.candidates.specs.Bounds.{Ready}
-use Rattle.candidates.specs.Doors.{Looked}
+use Rattle.candidates.specs.Contracts.{Looked}
 use Rattle.candidates.specs.Ring.{centerAt}
 use Rattle.candidates.proofs.Refusing.{rising, lowest-six}
 use Rattle.candidates.proofs.Room.{candidates-few}
@@ -27,11 +27,11 @@ use Rattle.frame.specs.declared.Verdict.{Verdict}
 use Rattle.fiducials.specs.Answers.{quadAt, placesAt, noQuad, noPlaces, cornersAs, cornersOf}
 use Rattle.fiducials.specs.Corners.{Corner, Outermost, pick, sharedPick, cornerNumber}
 use Rattle.fiducials.specs.Corners.Corner.{TL, TR, BR, BL}
-use Rattle.fiducials.specs.Doors.{Undetected, MarkedBy, Cornered, placeOf, centresAt, Detecting, Detection}
+use Rattle.fiducials.specs.Contracts.{Undetected, MarkedBy, Cornered, placeOf, centersAt, DetectionPastTests, Detection}
 use Rattle.fiducials.specs.declared.Corners.{Corners}
 use Rattle.fiducials.specs.declared.Places.{Places}
 use Rattle.fiducials.proofs.Answering.{number-from-7, number-none, as-number, as-accepted, as-refused, quad-of}
-use Rattle.fiducials.proofs.Named.{same-centre}
+use Rattle.fiducials.proofs.Named.{same-center}
 use Rattle.fiducials.proofs.Numbers.{marked-by, share, corner-lowest, tests-lowest}
 use Rattle.fiducials.proofs.Outer.{picks-outermost}
 use Rattle.fiducials.proofs.Picks.{pick-below}
@@ -102,20 +102,20 @@ module _ (img : Image) (f : FrameSpec) (a b : Areas) (n k deep : ℕ) (R : Ready
               (picks-outermost img f (R .capture .w-most) (R .capture .h-most) (L .patches) (L .candidates) c four);
         }
 
-    centres-are : quadAt at (chosen TL) (chosen TR) (chosen BR) (chosen BL) ≡ centresAt (b .patches) (placesAt (b .«blob_index») (chosen TL) (chosen TR) (chosen BR) (chosen BL))
-    unfolding quadAt centresAt placesAt
-    centres-are =
-        let e0 = same-centre img f (L .patches) (L .candidates) (chosen TL) (below TL) in
-        let e1 = same-centre img f (L .patches) (L .candidates) (chosen TR) (below TR) in
-        let e2 = same-centre img f (L .patches) (L .candidates) (chosen BR) (below BR) in
-        let e3 = same-centre img f (L .patches) (L .candidates) (chosen BL) (below BL) in
+    centers-are : quadAt at (chosen TL) (chosen TR) (chosen BR) (chosen BL) ≡ centersAt (b .patches) (placesAt (b .«blob_index») (chosen TL) (chosen TR) (chosen BR) (chosen BL))
+    unfolding quadAt centersAt placesAt
+    centers-are =
+        let e0 = same-center img f (L .patches) (L .candidates) (chosen TL) (below TL) in
+        let e1 = same-center img f (L .patches) (L .candidates) (chosen TR) (below TR) in
+        let e2 = same-center img f (L .patches) (L .candidates) (chosen BR) (below BR) in
+        let e3 = same-center img f (L .patches) (L .candidates) (chosen BL) (below BL) in
         λ i. record { tl = e0 i; tr = e1 i; br = e2 i; bl = e3 i }
 
     quad-marked : MarkedBy img f (quadAt at (chosen TL) (chosen TR) (chosen BR) (chosen BL))
     quad-marked = subst (λ z. MarkedBy img f z) (sym (quad-of at k)) (marked-by img f (R .capture .w-most) (R .capture .h-most) (L .patches) (L .candidates) four)
 
   pub detecting : (r : Corners) → r ≡ cornersOf (b .candidates) (b .«blob_index») (img .w) (img .h) k
-      → Detecting img f a b (r .number) n k deep (r .places) (r .quad)
+      → DetectionPastTests img f a b (r .number) n k deep (r .places) (r .quad)
   unfolding cornersOf
   detecting r e =
       let N = cornerNumber (img .w) (img .h) at k in
@@ -130,10 +130,10 @@ module _ (img : Image) (f : FrameSpec) (a b : Areas) (n k deep : ℕ) (R : Ready
             (corner-lowest img f (R .capture .w-most) (R .capture .h-most) (L .patches) (L .candidates) tests no);
         from-seven = λ o. subst (λ z. 7 ≤ z) (sym en) (number-from-7 (img .w) (img .h) at k (subst (λ z. 1 ≤ z) en o));
         corners = λ o. subst (λ z. Cornered img f (b .patches) (L .firsts) n z) (sym (es ∙ as-accepted N Q S (sym en ∙ o) .1)) (cornered (sym en ∙ o));
-        centres = λ o.
+        centers = λ o.
             let x : r .quad ≡ Q = eq ∙ as-accepted N Q S (sym en ∙ o) .0 in
             let y : r .places ≡ S = es ∙ as-accepted N Q S (sym en ∙ o) .1 in
-            x ∙ centres-are (sym en ∙ o) ∙ ap (centresAt (b .patches)) (sym y);
+            x ∙ centers-are (sym en ∙ o) ∙ ap (centersAt (b .patches)) (sym y);
         marked = λ o. subst (λ z. MarkedBy img f z) (sym (eq ∙ as-accepted N Q S (sym en ∙ o) .0)) (quad-marked (sym en ∙ o));
         none = λ o.
             let g = as-refused N Q S (subst (λ z. 1 ≤ z) en o) in
@@ -142,7 +142,8 @@ module _ (img : Image) (f : FrameSpec) (a b : Areas) (n k deep : ℕ) (R : Ready
 
 -- ---- the room that `corners` asks
 
-pub candidates-room : (img : Image) (f : FrameSpec) (a b : Areas) (n k deep : ℕ) → Ready img f a → Looked img f a b n k deep → (4 * k ≤ length (b .candidates)) × (k ≤ length (b .«blob_index»))
+pub candidates-room : (img : Image) (f : FrameSpec) (a b : Areas) (n k deep : ℕ) → Ready img f a → Looked img f a b n k deep
+    → (4 * k ≤ length (b .candidates)) × (k ≤ length (b .«blob_index»))
 unfolding maskPlane
 candidates-room img f a b n k deep R L =
     let few : 32 * k ≤ length (maskPlane img f) = candidates-few (L .patches) (L .candidates) in
@@ -153,7 +154,7 @@ candidates-room img f a b n k deep R L =
     let rp : img .w * img .h / 32 ≤ length (a .«blob_index») = R .places-room in
     (omega arith, omega arith)
 
--- ---- the door's two ends
+-- ---- the public function's two ends
 
 pub detection-refused : (img : Image) (f : FrameSpec) (a : Areas) (number : ℕ) (v : Verdict) (q : Quad) (s : Places)
     → number ≡ lowestOf (lookTests img f a) → (number ≡ 0 → ⊥) → v ≡ verdictOf number → q ≡ noQuad → s ≡ noPlaces → Detection img f a a v 0 0 0 s q
@@ -168,7 +169,7 @@ detection-refused img f a number v q s e ne ev eq es =
       refused = λ x. absurd (omega arith);
       accepted = λ x. absurd (ne x);
       corners = λ x. absurd (ne x);
-      centres = λ x. absurd (ne x);
+      centers = λ x. absurd (ne x);
       none = λ x. (eq, es);
     }
   where
@@ -177,7 +178,7 @@ detection-refused img f a number v q s e ne ev eq es =
     positive (suc n) h = omega arith
 
 pub detection-found : (img : Image) (f : FrameSpec) (a b : Areas) (number : ℕ) (v : Verdict) (n k deep : ℕ) (s : Places) (q : Quad)
-    → lowestOf (lookTests img f a) ≡ 0 → Detecting img f a b number n k deep s q → v ≡ verdictOf number → Detection img f a b v n k deep s q
+    → lowestOf (lookTests img f a) ≡ 0 → DetectionPastTests img f a b number n k deep s q → v ≡ verdictOf number → Detection img f a b v n k deep s q
 detection-found img f a b number v n k deep s q e D ev =
     record {
       number = number;
@@ -187,6 +188,6 @@ detection-found img f a b number v n k deep s q e D ev =
       refused = λ x. D .looked;
       accepted = λ x. D .looked;
       corners = λ x. D .corners x;
-      centres = λ x. D .centres x;
+      centers = λ x. D .centers x;
       none = λ x. D .none x;
     }

@@ -12,11 +12,11 @@ use Rattle.frame.specs.declared.Quad.{Quad}
 use Rattle.frame.specs.declared.Verdict.{Verdict}
 use Rattle.frame.proofs.Lowest.{Rising, above, lowest-unique}
 use Rattle.candidates.specs.Areas.{Areas, areaShort, lookTests}
-use Rattle.candidates.specs.Doors.{Looked}
+use Rattle.candidates.specs.Contracts.{Looked}
 use Rattle.candidates.proofs.Determined as look
 use Rattle.candidates.proofs.Refusing.{rising}
-use Rattle.fiducials.specs.Doors.{Undetected, Detection}
-use Rattle.fiducials.specs.Doors.Undetected.{tested, few, shared, crooked}
+use Rattle.fiducials.specs.Contracts.{Undetected, Detection}
+use Rattle.fiducials.specs.Contracts.Undetected.{tested, few, shared, crooked}
 use Rattle.fiducials.specs.declared.Places.{Places}
 use Rattle.fiducials.proofs.Unique.{corners-mark, marked-unique, places-unique}
 
@@ -51,9 +51,10 @@ module _ (img : Image) (f : FrameSpec) (a b a′ b′ : Areas) (v v′ : Verdict
 
     found-quad : q ≡ q′
     found-quad =
-        h .centres yes
-        ∙ marked-unique img f _ _ (corners-mark img f (b .patches) (h .accepted yes .firsts) n s (h .corners yes)) (corners-mark img f (b′ .patches) (h′ .accepted also .firsts) n′ s′ (h′ .corners also))
-        ∙ sym (h′ .centres also)
+        h .centers yes
+        ∙ marked-unique img f _ _ (corners-mark img f (b .patches) (h .accepted yes .firsts) n s (h .corners yes)) (corners-mark img f
+        (b′ .patches) (h′ .accepted also .firsts) n′ s′ (h′ .corners also))
+        ∙ sym (h′ .centers also)
 
   pub same-places : s ≡ s′
   same-places = ⊎-elim found-places (λ o. h .none o .1 ∙ sym (h′ .none (subst (λ z. 1 ≤ z) same-number o) .1)) (zero-or (h .number))
@@ -63,5 +64,8 @@ module _ (img : Image) (f : FrameSpec) (a b a′ b′ : Areas) (v v′ : Verdict
 
   -- .. and the numbers of patches, candidates and waiting pixels, where the picture is looked at
   pub same-counts : Looked img f a b n k deep → Looked img f a′ b′ n′ k′ deep′ → (n ≡ n′) × (k ≡ k′) × (deep ≡ deep′)
-  same-counts l l′ =
-      (look.same-patches img f a b a′ b′ n k deep n′ k′ deep′ l l′, look.same-candidates img f a b a′ b′ n k deep n′ k′ deep′ l l′, look.same-waiting img f a b a′ b′ n k deep n′ k′ deep′ l l′)
+  same-counts l l′ = (
+    look.same-patches img f a b a′ b′ n k deep n′ k′ deep′ l l′,
+    look.same-candidates img f a b a′ b′ n k deep n′ k′ deep′ l l′,
+    look.same-waiting img f a b a′ b′ n k deep n′ k′ deep′ l l′,
+  )

@@ -13,7 +13,7 @@ use lib.Ieee.Order.{round-mono}
 use Rattle.blobs.specs.declared.Blob.{Blob}
 use Rattle.frame.specs.declared.Point.{Point}
 use Rattle.float.specs.Floats.{_⊕_, _⊖_, _⊘_, f64, d64}
-use Rattle.candidates.specs.Ring.{centre}
+use Rattle.candidates.specs.Ring.{center}
 use Rattle.fiducials.specs.Corners.{Corner, key}
 use Rattle.fiducials.specs.Corners.Corner.{TL, TR, BR, BL}
 use Rattle.fiducials.proofs.Picks.{Number}
@@ -63,7 +63,9 @@ shape (suc q) k l d i c h = let t = trailingZeros d (suc q) in small (suc q / 2 
     go m e t =
         let p : m * up e * 1 ≡ m * up e = mul-one (m * up e) in
         let r : 1 * 2 ^ i * down e ≡ 2 ^ i * down e = ap (λ z. z * down e) (one-mul (2 ^ i)) in
-        subst (λ z. z ≤ 2 ^ i * down e) p (subst (λ z. m * up e * 1 ≤ z) r (either (ltb (m * up e * 1) (1 * 2 ^ i * down e)) (eqb (m * up e * 1) (1 * 2 ^ i * down e)) (λ x. let y : m * up e * 1 < 1 * 2 ^ i * down e = ltb→lt _ _ x in omega arith) (λ x. le-of-eq (eqb→eq _ _ x)) t))
+        subst (λ z. z ≤ 2 ^ i * down e) p (subst (λ z. m * up e * 1 ≤ z) r (either (ltb (m * up e * 1) (1 * 2 ^ i * down e))
+        (eqb (m * up e * 1) (1 * 2 ^ i * down e)) (λ x. let y : m * up e * 1 < 1 * 2 ^ i * down e = ltb→lt _ _ x in
+        omega arith) (λ x. le-of-eq (eqb→eq _ _ x)) t))
       where
         either : {P : Type 0} (a b : Bool) → (T a → P) → (T b → P) → T (a || (b && true)) → P
         either true b f g t = f tt
@@ -74,7 +76,8 @@ units-small : (q k i : ℕ) → T (le (units binary64 false q k) (fin false 1 (p
 unfolding units
 units-small q k i h = go (ltb (q * 2 ^ k) (2 ^ (low binary64 + suc (emax binary64)))) h
   where
-    go : (b : Bool) → T (le (cond b (odd (suc (prec binary64)) false q k (low binary64)) (inf false)) (fin false 1 (pos i))) → Small (2 ^ i) (cond b (odd (suc (prec binary64)) false q k (low binary64)) (inf false))
+    go : (b : Bool) → T (le (cond b (odd (suc (prec binary64)) false q k (low binary64)) (inf false)) (fin false 1 (pos i)))
+        → Small (2 ^ i) (cond b (odd (suc (prec binary64)) false q k (low binary64)) (inf false))
     go true h = shape q k (low binary64) (suc (prec binary64)) i 0 h
     go false h = absurd (unfold le lt eq in h)
 
@@ -115,7 +118,9 @@ whole-one n l h = go (whole-small n h)
     one-below = unfold ofInt in subst (λ z. T (le z (round binary64 false n 1))) power-0 (round-mono binary64 1 1 n 1 (omega arith) (omega arith) (omega arith))
 
     bound : (m : ℕ) (e : ℤ) → T (le (fin false 1 (pos 0)) (fin false m e)) → down e ≤ m * up e
-    bound m e t = unfold le lt eq in either (ltb (1 * 1 * down e) (m * up e * 1)) (eqb (1 * 1 * down e) (m * up e * 1)) (λ x. let y : 1 * 1 * down e < m * up e * 1 = ltb→lt (1 * 1 * down e) (m * up e * 1) x in omega arith) (λ x. let y : 1 * 1 * down e ≡ m * up e * 1 = eqb→eq (1 * 1 * down e) (m * up e * 1) x in omega arith) t
+    bound m e t = unfold le lt eq in either (ltb (1 * 1 * down e) (m * up e * 1)) (eqb (1 * 1 * down e) (m * up e * 1)) (λ x. let y : 1 * 1
+        * down e < m * up e * 1 = ltb→lt (1 * 1 * down e) (m * up e * 1) x in omega arith) (λ x. let y : 1 * 1 * down e
+        ≡ m * up e * 1 = eqb→eq (1 * 1 * down e) (m * up e * 1) x in omega arith) t
       where
         either : {P : Type 0} (a b : Bool) → (T a → P) → (T b → P) → T (a || (b && true)) → P
         either true b f g t = f tt
@@ -145,7 +150,8 @@ quotient-small x y (small m e p h) (at-least-one n d q k) = subst (λ z. Small (
     rounded = round-small 60 (m * up e * down d) (n * up d * down e) (native.Mathlib.Nat.mul-pos positive (down-pos e)) power-60 ratio
 
     go : Small (2 ^ 60) (fin false m e ⊘ fin false n d)
-    go = unfold div in subst (λ b. Small (2 ^ 60) (cond b (cond (eqb m 0) nan (inf (unlike false false))) (round binary64 false (m * up e * down d) (n * up d * down e)))) (sym (some n positive)) rounded
+    go = unfold div in subst (λ b. Small (2 ^ 60) (cond b (cond (eqb m 0) nan (inf (unlike false false))) (round binary64 false (m * up e *
+        down d) (n * up d * down e)))) (sym (some n positive)) rounded
 
 -- ---- sums and differences of finite numbers are numbers
 pub data Finite (x : Float) : Type 0 where
@@ -175,12 +181,13 @@ half-more x (small m e p h) = subst (λ z. Finite (z ⊕ d64 5 10)) (sym p) (sub
     of-small z (small n d q k) = finite false n d q
 
     go : Finite (fin false m e ⊕ fin false 1 (lib.IntN.negsuc 0))
-    go = unfold add sum in of-small (round binary64 false (m * up e * 2 + 1 * 1 * down e) (down e * 2)) (round-small 61 (m * up e * 2 + 1 * 1 * down e) (down e * 2) (native.Mathlib.Nat.mul-pos (down-pos e) (omega arith)) power-61 bound)
+    go = unfold add sum in of-small (round binary64 false (m * up e * 2 + 1 * 1 * down e) (down e * 2)) (round-small 61 (m * up e * 2 + 1 *
+        1 * down e) (down e * 2) (native.Mathlib.Nat.mul-pos (down-pos e) (omega arith)) power-61 bound)
 
 -- the centre of a patch with an area from 1 on, within 2 ^ 60
-pub centre-finite : (t : Blob) → 1 ≤ t .area → t .area ≤ 2 ^ 60 → t .sx ≤ 2 ^ 60 → t .sy ≤ 2 ^ 60 → Finite (centre t .x) × Finite (centre t .y)
-unfolding centre
-centre-finite t o a x y = (
+pub center-finite : (t : Blob) → 1 ≤ t .area → t .area ≤ 2 ^ 60 → t .sx ≤ 2 ^ 60 → t .sy ≤ 2 ^ 60 → Finite (center t .x) × Finite (center t .y)
+unfolding center
+center-finite t o a x y = (
   half-more (f64 (t .sx) ⊘ f64 (t .area)) (quotient-small (f64 (t .sx)) (f64 (t .area)) (whole-small (t .sx) x) (whole-one (t .area) o a)),
   half-more (f64 (t .sy) ⊘ f64 (t .area)) (quotient-small (f64 (t .sy)) (f64 (t .area)) (whole-small (t .sy) y) (whole-one (t .area) o a)),
 )

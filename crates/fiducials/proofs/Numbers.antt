@@ -21,14 +21,14 @@ use Rattle.candidates.specs.Ring.{CandidateList}
 use Rattle.fiducials.specs.Corners.{Corner, Outermost, pick, quadOf, sharedPick, oneWay, tooSmall, cornerNumber}
 use Rattle.fiducials.specs.Corners.Corner.{TL, TR, BR, BL}
 use Rattle.frame.specs.Refusals.{Check, Tested, lowestOf, Lowest}
-use Rattle.fiducials.specs.Doors.{Undetected, FourPass, Shared, MarkedBy}
+use Rattle.fiducials.specs.Contracts.{Undetected, FourPass, Shared, MarkedBy}
 use Rattle.frame.specs.Refusals.Lowest.{accepted, refused}
-use Rattle.fiducials.specs.Doors.Undetected.{tested, few, shared, crooked}
+use Rattle.fiducials.specs.Contracts.Undetected.{tested, few, shared, crooked}
 use Rattle.base.proofs.Plane.{le-or-lt}
 use Rattle.frame.proofs.Lowest.{Rising, lowest-of}
 use Rattle.fiducials.proofs.Unique.{outermost-unique, marked-unique}
 use Rattle.fiducials.proofs.Picks.{pick-below}
-use Rattle.fiducials.proofs.Named.{centreAt, place, same-centre, candidate-passes, found, earlier}
+use Rattle.fiducials.proofs.Named.{candidateCenter, place, same-center, candidate-passes, found, earlier}
 use Rattle.fiducials.proofs.Outer.{picks-outermost}
 
 lt-or : (i j : ℕ) → (i < j) ⊎ (j ≤ i)
@@ -82,8 +82,8 @@ tests-lowest img f l r h k = go (lowest-of 0 l r)
 module _ (img : Image) (f : FrameSpec) (w-held : img .w ≤ 4096) (h-held : img .h ≤ 4096) {l l′ : List ℕ} {n : ℕ} {firsts : List ℕ} {c c′ : List Float} {p p′ : List ℕ} {k : ℕ}
     (patches : PatchList (maskPlane img f) (img .w) l l′ n firsts)
     (candidates : CandidateList (maskPlane img f) (lumaPlane img) (img .w) (img .h) (patchAt l′) n c p c′ p′ k) where
-  abbrev pub centreOf : ℕ → Point
-  centreOf = centreAt img f patches candidates
+  abbrev pub centerOf : ℕ → Point
+  centerOf = candidateCenter img f patches candidates
 
   abbrev placed : ℕ → ℕ
   placed = place img f patches candidates
@@ -133,23 +133,23 @@ module _ (img : Image) (f : FrameSpec) (w-held : img .w ≤ 4096) (h-held : img 
 
   -- ---- the picks
   abbrev pub chosen : Corner → ℕ
-  chosen d = pick d centreOf k
+  chosen d = pick d centerOf k
 
   chosen-outermost : 0 < k → (d : Corner) → Outermost img f d (first-at (chosen d)) (patchAt l′ (placed (chosen d)))
   chosen-outermost h d = picks-outermost img f w-held h-held patches candidates d h
 
-  pub marked-by : 0 < k → MarkedBy img f (quadOf centreOf k)
+  pub marked-by : 0 < k → MarkedBy img f (quadOf centerOf k)
   unfolding quadOf
   marked-by h =
       record {
         p = λ d. first-at (chosen d);
         t = λ d. patchAt l′ (placed (chosen d));
         outermost = chosen-outermost h;
-        centres = λ i. record {
-          tl = same-centre img f patches candidates (chosen TL) (pick-below TL centreOf k h) i;
-          tr = same-centre img f patches candidates (chosen TR) (pick-below TR centreOf k h) i;
-          br = same-centre img f patches candidates (chosen BR) (pick-below BR centreOf k h) i;
-          bl = same-centre img f patches candidates (chosen BL) (pick-below BL centreOf k h) i;
+        centers = λ i. record {
+          tl = same-center img f patches candidates (chosen TL) (pick-below TL centerOf k h) i;
+          tr = same-center img f patches candidates (chosen TR) (pick-below TR centerOf k h) i;
+          br = same-center img f patches candidates (chosen BR) (pick-below BR centerOf k h) i;
+          bl = same-center img f patches candidates (chosen BL) (pick-below BL centerOf k h) i;
         };
       }
 
@@ -162,7 +162,7 @@ module _ (img : Image) (f : FrameSpec) (w-held : img .w ≤ 4096) (h-held : img 
 
   pub one-patch : 0 < k → (s : Shared img f) → chosen (s .c) ≡ chosen (s .d)
   one-patch h s =
-      same-candidate (chosen (s .c)) (chosen (s .d)) (pick-below (s .c) centreOf k h) (pick-below (s .d) centreOf k h)
+      same-candidate (chosen (s .c)) (chosen (s .d)) (pick-below (s .c) centerOf k h) (pick-below (s .d) centerOf k h)
       (outermost-unique img f (s .c) _ _ _ _ (chosen-outermost h (s .c)) (s .outermost-c)
       ∙ sym (outermost-unique img f (s .d) _ _ _ _ (chosen-outermost h (s .d)) (s .outermost-d)))
 
@@ -179,31 +179,37 @@ module _ (img : Image) (f : FrameSpec) (w-held : img .w ≤ 4096) (h-held : img 
       }
 
   -- .. as a test
-  share-1 : chosen TL ≡ chosen TR → T (sharedPick centreOf k)
+  share-1 : chosen TL ≡ chosen TR → T (sharedPick centerOf k)
   unfolding sharedPick
-  share-1 h = in-1 (eqb (chosen TL) (chosen TR)) (eqb (chosen TL) (chosen BR)) (eqb (chosen TL) (chosen BL)) (eqb (chosen TR) (chosen BR)) (eqb (chosen TR) (chosen BL)) (eqb (chosen BR) (chosen BL)) (eq→eqb h)
+  share-1 h = in-1 (eqb (chosen TL) (chosen TR)) (eqb (chosen TL) (chosen BR)) (eqb (chosen TL) (chosen BL)) (eqb (chosen TR) (chosen BR))
+      (eqb (chosen TR) (chosen BL)) (eqb (chosen BR) (chosen BL)) (eq→eqb h)
 
-  share-2 : chosen TL ≡ chosen BR → T (sharedPick centreOf k)
+  share-2 : chosen TL ≡ chosen BR → T (sharedPick centerOf k)
   unfolding sharedPick
-  share-2 h = in-2 (eqb (chosen TL) (chosen TR)) (eqb (chosen TL) (chosen BR)) (eqb (chosen TL) (chosen BL)) (eqb (chosen TR) (chosen BR)) (eqb (chosen TR) (chosen BL)) (eqb (chosen BR) (chosen BL)) (eq→eqb h)
+  share-2 h = in-2 (eqb (chosen TL) (chosen TR)) (eqb (chosen TL) (chosen BR)) (eqb (chosen TL) (chosen BL)) (eqb (chosen TR) (chosen BR))
+      (eqb (chosen TR) (chosen BL)) (eqb (chosen BR) (chosen BL)) (eq→eqb h)
 
-  share-3 : chosen TL ≡ chosen BL → T (sharedPick centreOf k)
+  share-3 : chosen TL ≡ chosen BL → T (sharedPick centerOf k)
   unfolding sharedPick
-  share-3 h = in-3 (eqb (chosen TL) (chosen TR)) (eqb (chosen TL) (chosen BR)) (eqb (chosen TL) (chosen BL)) (eqb (chosen TR) (chosen BR)) (eqb (chosen TR) (chosen BL)) (eqb (chosen BR) (chosen BL)) (eq→eqb h)
+  share-3 h = in-3 (eqb (chosen TL) (chosen TR)) (eqb (chosen TL) (chosen BR)) (eqb (chosen TL) (chosen BL)) (eqb (chosen TR) (chosen BR))
+      (eqb (chosen TR) (chosen BL)) (eqb (chosen BR) (chosen BL)) (eq→eqb h)
 
-  share-4 : chosen TR ≡ chosen BR → T (sharedPick centreOf k)
+  share-4 : chosen TR ≡ chosen BR → T (sharedPick centerOf k)
   unfolding sharedPick
-  share-4 h = in-4 (eqb (chosen TL) (chosen TR)) (eqb (chosen TL) (chosen BR)) (eqb (chosen TL) (chosen BL)) (eqb (chosen TR) (chosen BR)) (eqb (chosen TR) (chosen BL)) (eqb (chosen BR) (chosen BL)) (eq→eqb h)
+  share-4 h = in-4 (eqb (chosen TL) (chosen TR)) (eqb (chosen TL) (chosen BR)) (eqb (chosen TL) (chosen BL)) (eqb (chosen TR) (chosen BR))
+      (eqb (chosen TR) (chosen BL)) (eqb (chosen BR) (chosen BL)) (eq→eqb h)
 
-  share-5 : chosen TR ≡ chosen BL → T (sharedPick centreOf k)
+  share-5 : chosen TR ≡ chosen BL → T (sharedPick centerOf k)
   unfolding sharedPick
-  share-5 h = in-5 (eqb (chosen TL) (chosen TR)) (eqb (chosen TL) (chosen BR)) (eqb (chosen TL) (chosen BL)) (eqb (chosen TR) (chosen BR)) (eqb (chosen TR) (chosen BL)) (eqb (chosen BR) (chosen BL)) (eq→eqb h)
+  share-5 h = in-5 (eqb (chosen TL) (chosen TR)) (eqb (chosen TL) (chosen BR)) (eqb (chosen TL) (chosen BL)) (eqb (chosen TR) (chosen BR))
+      (eqb (chosen TR) (chosen BL)) (eqb (chosen BR) (chosen BL)) (eq→eqb h)
 
-  share-6 : chosen BR ≡ chosen BL → T (sharedPick centreOf k)
+  share-6 : chosen BR ≡ chosen BL → T (sharedPick centerOf k)
   unfolding sharedPick
-  share-6 h = in-6 (eqb (chosen TL) (chosen TR)) (eqb (chosen TL) (chosen BR)) (eqb (chosen TL) (chosen BL)) (eqb (chosen TR) (chosen BR)) (eqb (chosen TR) (chosen BL)) (eqb (chosen BR) (chosen BL)) (eq→eqb h)
+  share-6 h = in-6 (eqb (chosen TL) (chosen TR)) (eqb (chosen TL) (chosen BR)) (eqb (chosen TL) (chosen BL)) (eqb (chosen TR) (chosen BR))
+      (eqb (chosen TR) (chosen BL)) (eqb (chosen BR) (chosen BL)) (eq→eqb h)
 
-  pub share : (d e : Corner) → (d ≡ e → ⊥) → chosen d ≡ chosen e → T (sharedPick centreOf k)
+  pub share : (d e : Corner) → (d ≡ e → ⊥) → chosen d ≡ chosen e → T (sharedPick centerOf k)
   share TL TL n h = absurd (n refl)
   share TL TR n h = share-1 h
   share TL BR n h = share-2 h
@@ -221,7 +227,7 @@ module _ (img : Image) (f : FrameSpec) (w-held : img .w ≤ 4096) (h-held : img 
   share BL BR n h = share-6 (sym h)
   share BL BL n h = absurd (n refl)
 
-  two-of : 0 < k → T (sharedPick centreOf k) → Shared img f
+  two-of : 0 < k → T (sharedPick centerOf k) → Shared img f
   unfolding sharedPick
   two-of h t = ⊎-elim
       (λ a. ⊎-elim
@@ -238,7 +244,8 @@ module _ (img : Image) (f : FrameSpec) (w-held : img .w ≤ 4096) (h-held : img 
       (λ b. of TR BL (λ q. let z : _≡_ {A = ℕ} 0 1 = cc in omega arith) b)
       (or-cases (eqb (chosen TL) (chosen TR) || eqb (chosen TL) (chosen BR) || eqb (chosen TL) (chosen BL) || eqb (chosen TR) (chosen BR)) (eqb (chosen TR) (chosen BL)) a))
       (λ a. of BR BL (λ q. let z : _≡_ {A = ℕ} 0 1 = cc in omega arith) a)
-      (or-cases (eqb (chosen TL) (chosen TR) || eqb (chosen TL) (chosen BR) || eqb (chosen TL) (chosen BL) || eqb (chosen TR) (chosen BR) || eqb (chosen TR) (chosen BL)) (eqb (chosen BR) (chosen BL)) t)
+      (or-cases (eqb (chosen TL) (chosen TR) || eqb (chosen TL) (chosen BR) || eqb (chosen TL) (chosen BL) || eqb (chosen TR) (chosen BR) ||
+      eqb (chosen TR) (chosen BL)) (eqb (chosen BR) (chosen BL)) t)
     where
       of : (d e : Corner) → (d ≡ e → ⊥) → T (eqb (chosen d) (chosen e)) → Shared img f
       of d e n t = one-candidate h d e n (eqb→eq (chosen d) (chosen e) t)
@@ -246,13 +253,13 @@ module _ (img : Image) (f : FrameSpec) (w-held : img .w ≤ 4096) (h-held : img 
   -- ---- 7 to 9, and acceptance: where no test holds, the number worked out is the lowest
   module _ (tests : List Check) (no-test : (j : ℕ) → Tested j tests → ⊥) where
     -- the quadrilateral of the condition is that of the picks
-    the-quad : 0 < k → (q : Quad) → MarkedBy img f q → q ≡ quadOf centreOf k
-    the-quad h q m = marked-unique img f q (quadOf centreOf k) m (marked-by h)
+    the-quad : 0 < k → (q : Quad) → MarkedBy img f q → q ≡ quadOf centerOf k
+    the-quad h q m = marked-unique img f q (quadOf centerOf k) m (marked-by h)
 
     abbrev bad-quad : Quad → Bool
     bad-quad q = not (oneWay q) || tooSmall (img .w) (img .h) q
 
-    pub corner-lowest : Lowest (Undetected img f tests) (cornerNumber (img .w) (img .h) centreOf k)
+    pub corner-lowest : Lowest (Undetected img f tests) (cornerNumber (img .w) (img .h) centerOf k)
     unfolding cornerNumber
     corner-lowest = seven (ltb k 4) (ltb→lt k 4) (nltb→le k 4)
       where
@@ -268,26 +275,28 @@ module _ (img : Image) (f : FrameSpec) (w-held : img .w ≤ 4096) (h-held : img 
         to-8 h j a (shared e x) = omega arith
         to-8 h j a (crooked e q x y) = omega arith
 
-        to-9 : 4 ≤ k → T (not (sharedPick centreOf k)) → (j : ℕ) → j < 9 → Undetected img f tests j → ⊥
+        to-9 : 4 ≤ k → T (not (sharedPick centerOf k)) → (j : ℕ) → j < 9 → Undetected img f tests j → ⊥
         to-9 h s j a (tested t) = no-test j t
         to-9 h s j a (few e x) = x (four-pass h)
-        to-9 h s j a (shared e x) = T-not (sharedPick centreOf k) s (share (x .c) (x .d) (x .differ) (one-patch (omega arith) x))
+        to-9 h s j a (shared e x) = T-not (sharedPick centerOf k) s (share (x .c) (x .d) (x .differ) (one-patch (omega arith) x))
         to-9 h s j a (crooked e q x y) = omega arith
 
-        none : 4 ≤ k → T (not (sharedPick centreOf k)) → T (not (bad-quad (quadOf centreOf k))) → (j : ℕ) → Undetected img f tests j → ⊥
+        none : 4 ≤ k → T (not (sharedPick centerOf k)) → T (not (bad-quad (quadOf centerOf k))) → (j : ℕ) → Undetected img f tests j → ⊥
         none h s b j (tested t) = no-test j t
         none h s b j (few e x) = x (four-pass h)
-        none h s b j (shared e x) = T-not (sharedPick centreOf k) s (share (x .c) (x .d) (x .differ) (one-patch (omega arith) x))
-        none h s b j (crooked e q x y) = T-not (bad-quad (quadOf centreOf k)) b (subst (λ z. T (bad-quad z)) (the-quad (omega arith) q x) y)
+        none h s b j (shared e x) = T-not (sharedPick centerOf k) s (share (x .c) (x .d) (x .differ) (one-patch (omega arith) x))
+        none h s b j (crooked e q x y) = T-not (bad-quad (quadOf centerOf k)) b (subst (λ z. T (bad-quad z)) (the-quad (omega arith) q x) y)
 
-        nine : 4 ≤ k → T (not (sharedPick centreOf k)) → (t : Bool) → (T t → T (bad-quad (quadOf centreOf k))) → (T (not t) → T (not (bad-quad (quadOf centreOf k)))) → Lowest (Undetected img f tests) (cond t 9 0)
-        nine h s true y n = refused (crooked refl (quadOf centreOf k) (marked-by (omega arith)) (y tt)) (to-9 h s)
+        nine : 4 ≤ k → T (not (sharedPick centerOf k)) → (t : Bool) → (T t → T (bad-quad (quadOf centerOf k))) → (T (not t)
+            → T (not (bad-quad (quadOf centerOf k)))) → Lowest (Undetected img f tests) (cond t 9 0)
+        nine h s true y n = refused (crooked refl (quadOf centerOf k) (marked-by (omega arith)) (y tt)) (to-9 h s)
         nine h s false y n = accepted refl (none h s (n tt))
 
-        eight : 4 ≤ k → (t : Bool) → (T t → T (sharedPick centreOf k)) → (T (not t) → T (not (sharedPick centreOf k))) → Lowest (Undetected img f tests) (cond t 8 (cond (bad-quad (quadOf centreOf k)) 9 0))
+        eight : 4 ≤ k → (t : Bool) → (T t → T (sharedPick centerOf k)) → (T (not t) → T (not (sharedPick centerOf k)))
+            → Lowest (Undetected img f tests) (cond t 8 (cond (bad-quad (quadOf centerOf k)) 9 0))
         eight h true y n = refused (shared refl (two-of (omega arith) (y tt))) (to-8 h)
-        eight h false y n = nine h (n tt) (bad-quad (quadOf centreOf k)) (λ t. t) (λ t. t)
+        eight h false y n = nine h (n tt) (bad-quad (quadOf centerOf k)) (λ t. t) (λ t. t)
 
-        seven : (t : Bool) → (T t → k < 4) → (T (not t) → 4 ≤ k) → Lowest (Undetected img f tests) (cond t 7 (cond (sharedPick centreOf k) 8 (cond (bad-quad (quadOf centreOf k)) 9 0)))
+        seven : (t : Bool) → (T t → k < 4) → (T (not t) → 4 ≤ k) → Lowest (Undetected img f tests) (cond t 7 (cond (sharedPick centerOf k) 8 (cond (bad-quad (quadOf centerOf k)) 9 0)))
         seven true y n = refused (few refl (λ x. let a : 4 ≤ k = pass-four x in let b : k < 4 = y tt in omega arith)) tests-only
-        seven false y n = eight (n tt) (sharedPick centreOf k) (λ t. t) (λ t. t)
+        seven false y n = eight (n tt) (sharedPick centerOf k) (λ t. t) (λ t. t)

@@ -13,11 +13,11 @@ use Rattle.frame.specs.declared.Quad.{Quad}
 use Rattle.mask.specs.Mask.{maskPlane}
 use Rattle.blobs.specs.Patches.{PatchOf, PatchList, patchAt}
 use Rattle.blobs.specs.declared.Blob.{Blob}
-use Rattle.candidates.specs.Ring.{centre}
+use Rattle.candidates.specs.Ring.{center}
 use Rattle.candidates.proofs.Unique.{patch-unique, list-firsts}
 use Rattle.fiducials.specs.Corners.{Corner, Outermost}
 use Rattle.fiducials.specs.Corners.Corner.{TL, TR, BR, BL}
-use Rattle.fiducials.specs.Doors.{MarkedBy, Cornered, placeOf, centresAt}
+use Rattle.fiducials.specs.Contracts.{MarkedBy, Cornered, placeOf, centersAt}
 use Rattle.fiducials.specs.declared.Places.{Places}
 
 -- the outermost patch toward a corner is one
@@ -32,16 +32,17 @@ outermost-record img f c p q t u a b =
 -- so the four centres are decided by the picture
 pub marked-unique : (img : Image) (f : FrameSpec) (q r : Quad) → MarkedBy img f q → MarkedBy img f r → q ≡ r
 marked-unique img f q r a b =
-    let e : (c : Corner) → centre (a .t c) ≡ centre (b .t c) = λ c. ap centre (outermost-record img f c (a .p c) (b .p c) (a .t c) (b .t c) (a .outermost c) (b .outermost c)) in
-    a .centres ∙ (λ i. record { tl = e TL i; tr = e TR i; br = e BR i; bl = e BL i }) ∙ sym (b .centres)
+    let e : (c : Corner) → center (a .t c) ≡ center (b .t c) = λ c. ap center (outermost-record img f c (a .p c) (b .p c) (a .t c) (b .t c) (a .outermost c) (b .outermost c)) in
+    a .centers ∙ (λ i. record { tl = e TL i; tr = e TR i; br = e BR i; bl = e BL i }) ∙ sym (b .centers)
 
 -- the corners that an answer names are the picture's
-pub corners-mark : (img : Image) (f : FrameSpec) (l firsts : List ℕ) (n : ℕ) (s : Places) → Cornered img f l firsts n s → MarkedBy img f (centresAt l s)
-unfolding centresAt placeOf
-corners-mark img f l firsts n s h = record { p = λ c. getD firsts (placeOf s c) 0; t = λ c. patchAt l (placeOf s c); outermost = h .outermost; centres = refl }
+pub corners-mark : (img : Image) (f : FrameSpec) (l firsts : List ℕ) (n : ℕ) (s : Places) → Cornered img f l firsts n s → MarkedBy img f (centersAt l s)
+unfolding centersAt placeOf
+corners-mark img f l firsts n s h = record { p = λ c. getD firsts (placeOf s c) 0; t = λ c. patchAt l (placeOf s c); outermost = h .outermost; centers = refl }
 
 -- .. and so are their places, in any list of its patches
-module _ (img : Image) (f : FrameSpec) {k k′ l l′ : List ℕ} {n o : ℕ} {F G : List ℕ} (a : PatchList (maskPlane img f) (img .w) k k′ n F) (b : PatchList (maskPlane img f) (img .w) l l′ o G) (s r : Places)
+module _ (img : Image) (f : FrameSpec) {k k′ l l′ : List ℕ} {n o : ℕ} {F G : List ℕ} (a : PatchList (maskPlane img f) (img .w) k k′ n F)
+    (b : PatchList (maskPlane img f) (img .w) l l′ o G) (s r : Places)
     (c : Cornered img f k′ F n s) (d : Cornered img f l′ G o r) where
   place-same : (e : Corner) → placeOf s e ≡ placeOf r e
   place-same e =

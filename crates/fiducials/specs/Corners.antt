@@ -9,7 +9,7 @@ use Rattle.frame.specs.Image.{Image}
 use Rattle.sampling.specs.Luma.{lumaPlane}
 use Rattle.mask.specs.Mask.{maskPlane}
 use Rattle.blobs.specs.Patches.{PatchOf, First}
-use Rattle.candidates.specs.Ring.{passes, centre}
+use Rattle.candidates.specs.Ring.{passes, center}
 use Rattle.frame.specs.declared.FrameSpec.{FrameSpec}
 use Rattle.frame.specs.declared.Point.{Point}
 use Rattle.frame.specs.declared.Quad.{Quad}
@@ -32,7 +32,8 @@ key TR p = p .x ⊖ p .y
 key BR p = p .x ⊕ p .y
 key BL p = p .x ⊖ p .y
 
--- "One patch lies further out than another toward TL or BL when its key there is less, toward TR or BR when it is greater"
+-- "One patch lies further out than another toward TL or BL when its key there is less, toward TR or BR when it is
+-- greater"
 unfoldable pub further : Corner → Point → Point → Bool
 further TL p q = lt (key TL p) (key TL q)
 further TR p q = lt (key TR q) (key TR p)
@@ -52,32 +53,35 @@ pub record Passing (img : Image) (f : FrameSpec) (p : ℕ) (t : Blob) : Type 0 w
   pub is : PatchOf (maskPlane img f) (img .w) p t
   pub ring : T (passes (maskPlane img f) (lumaPlane img) (img .w) (img .h) t)
 
--- the patch named for a corner: it passes the ring rule, and "No other passing patch lies further out toward that corner,
--- and of equals the first in raster order is named". Two are equals when neither lies further out
+-- the patch named for a corner: it passes the ring rule, and "No other passing patch lies further out toward that
+-- corner, and of equals the first in raster order is named". Two are equals when neither lies further out
 pub record Outermost (img : Image) (f : FrameSpec) (c : Corner) (p : ℕ) (t : Blob) : Type 0 where
   pub passing : Passing img f p t
-  pub none-further : (q : ℕ) (u : Blob) → Passing img f q u → T (not (further c (centre u) (centre t)))
-  pub first-of-equals : (q : ℕ) (u : Blob) → Passing img f q u → T (not (further c (centre t) (centre u))) → p ≤ q
+  pub none-further : (q : ℕ) (u : Blob) → Passing img f q u → T (not (further c (center u) (center t)))
+  pub first-of-equals : (q : ℕ) (u : Blob) → Passing img f q u → T (not (further c (center t) (center u))) → p ≤ q
 
 -- `cross` of three points, and its sign
 unfoldable pub cross : Point → Point → Point → Float
 cross a b c = (b .x ⊖ a .x) ⊗ (c .y ⊖ a .y) ⊖ (b .y ⊖ a .y) ⊗ (c .x ⊖ a .x)
 
-abbrev pub turn : Point → Point → Point → Float
-turn a b c = signumOf (cross a b c)
+abbrev pub orientation : Point → Point → Point → Float
+orientation a b c = signumOf (cross a b c)
 
 -- "Four `cross` signs must agree"
 unfoldable pub oneWay : Quad → Bool
 oneWay q =
-    let s = turn (q .tl) (q .tr) (q .br) in
-    eq s s && eq (turn (q .tr) (q .br) (q .bl)) s && eq (turn (q .br) (q .bl) (q .tl)) s && eq (turn (q .bl) (q .tl) (q .tr)) s
+    let s = orientation (q .tl) (q .tr) (q .br) in
+    eq s s && eq (orientation (q .tr) (q .br) (q .bl)) s && eq (orientation (q .br) (q .bl) (q .tl)) s
+    && eq (orientation (q .bl) (q .tl) (q .tr)) s
 
 -- half the absolute sum of the four terms, from zero
 abbrev pub term : Point → Point → Float
 term a b = a .x ⊗ b .y ⊖ b .x ⊗ a .y
 
 unfoldable pub quadArea : Quad → Float
-quadArea q = d64 5 10 ⊗ absOf (f64 0 ⊕ term (q .tl) (q .tr) ⊕ term (q .tr) (q .br) ⊕ term (q .br) (q .bl) ⊕ term (q .bl) (q .tl))
+quadArea q =
+    d64 5 10 ⊗ absOf (f64 0 ⊕ term (q .tl) (q .tr) ⊕ term (q .tr) (q .br) ⊕ term (q .br) (q .bl) ⊕ term (q .bl)
+    (q .tl))
 
 -- "Area below 0.04·w·h is refused"
 unfoldable pub tooSmall : ℕ → ℕ → Quad → Bool

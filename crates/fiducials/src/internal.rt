@@ -9,9 +9,10 @@ ghost use Rattle.frame.specs.Refusals.{verdictOf};
 ghost use Rattle.candidates.specs.Areas.{areas};
 ghost use Rattle.candidates.specs.Bounds.{Ready};
 ghost use Rattle.candidates.specs.Ring.{centerAt};
-ghost use Rattle.fiducials.specs.Corners.{cornerOf, pickStep, pick, cross, turn, oneWay, quadArea, tooSmall};
+ghost use Rattle.fiducials.specs.Corners.{cornerOf, pickStep, pick, cross, orientation, oneWay};
+ghost use Rattle.fiducials.specs.Corners.{quadArea, tooSmall};
 ghost use Rattle.fiducials.specs.Answers.{keyOf, quadAt, placesAt, noQuad, noPlaces, cornersOf};
-ghost use Rattle.fiducials.specs.Doors.{Detecting};
+ghost use Rattle.fiducials.specs.Contracts.{DetectionPastTests};
 use super::Corners;
 use super::Found;
 use super::Places;
@@ -70,8 +71,8 @@ fn cross(a: Point, b: Point, c: Point) -> f64
     (b.x - a.x) * (c.y - a.y) - (b.y - a.y) * (c.x - a.x)
 }
 
-fn turn(a: Point, b: Point, c: Point) -> f64
-    ensures { λ r. ⌜ r ≡ turn a b c ⌝ }
+fn orientation(a: Point, b: Point, c: Point) -> f64
+    ensures { λ r. ⌜ r ≡ orientation a b c ⌝ }
 {
     signum(cross(a, b, c))
 }
@@ -84,8 +85,11 @@ pub fn one_way(q: Quad) -> bool
     let tr = q.tr;
     let br = q.br;
     let bl = q.bl;
-    let s = turn(tl, tr, br);
-    (s == s) & (turn(tr, br, bl) == s) & (turn(br, bl, tl) == s) & (turn(bl, tl, tr) == s)
+    let s = orientation(tl, tr, br);
+    (s == s)
+        & (orientation(tr, br, bl) == s)
+        & (orientation(br, bl, tl) == s)
+        & (orientation(bl, tl, tr) == s)
 }
 
 fn area(q: Quad) -> f64
@@ -119,7 +123,8 @@ fn shared(tl: usize, tr: usize, br: usize, bl: usize) -> bool
 }
 
 fn quad_at(candidates: &[f64], tl: usize, tr: usize, br: usize, bl: usize) -> Quad
-    requires { ⌜ (4 * tl + 1 < length (now candidates)) × (4 * tr + 1 < length (now candidates)) × (4 * br + 1 < length (now candidates)) × (4 * bl + 1 < length (now candidates)) ⌝ }
+    requires { ⌜ (4 * tl + 1 < length (now candidates)) × (4 * tr + 1 < length (now candidates))
+        × (4 * br + 1 < length (now candidates)) × (4 * bl + 1 < length (now candidates)) ⌝ }
     ensures { λ r. ⌜ r ≡ quadAt (centerAt (now (candidates .entry))) tl tr br bl ⌝ }
 {
     let a = center_at(candidates, tl);
@@ -142,7 +147,8 @@ fn place(blob_index: &[u32], i: usize) -> usize
 }
 
 fn places_at(blob_index: &[u32], tl: usize, tr: usize, br: usize, bl: usize) -> Places
-    requires { ⌜ (tl < length (now «blob_index»)) × (tr < length (now «blob_index»)) × (br < length (now «blob_index»)) × (bl < length (now «blob_index»)) ⌝ }
+    requires { ⌜ (tl < length (now «blob_index»)) × (tr < length (now «blob_index»))
+        × (br < length (now «blob_index»)) × (bl < length (now «blob_index»)) ⌝ }
     ensures { λ r. ⌜ r ≡ placesAt (now («blob_index» .entry)) tl tr br bl ⌝ }
 {
     Places {
@@ -231,10 +237,13 @@ pub fn detect(
     blob_index: &mut [u32],
 ) -> Found
     requires { ⌜ Ready (image w h (now capture)) frame
-        (areas (now luma) (now integral) (now mask) (now seen) (now waiting) (now patches) (now candidates) (now «blob_index»)) ⌝ }
-    ensures { λ r. ⌜ Detecting (image w h (now (capture .entry))) frame
-        (areas (now (luma .entry)) (now (integral .entry)) (now (mask .entry)) (now (seen .entry)) (now (waiting .entry)) (now (patches .entry)) (now (candidates .entry)) (now («blob_index» .entry)))
-        (areas (now (luma .exit)) (now (integral .exit)) (now (mask .exit)) (now (seen .exit)) (now (waiting .exit)) (now (patches .exit)) (now (candidates .exit)) (now («blob_index» .exit)))
+        (areas (now luma) (now integral) (now mask) (now seen) (now waiting) (now patches) (now candidates)
+        (now «blob_index»)) ⌝ }
+    ensures { λ r. ⌜ DetectionPastTests (image w h (now (capture .entry))) frame
+        (areas (now (luma .entry)) (now (integral .entry)) (now (mask .entry)) (now (seen .entry))
+        (now (waiting .entry)) (now (patches .entry)) (now (candidates .entry)) (now («blob_index» .entry)))
+        (areas (now (luma .exit)) (now (integral .exit)) (now (mask .exit)) (now (seen .exit)) (now (waiting .exit))
+        (now (patches .exit)) (now (candidates .exit)) (now («blob_index» .exit)))
         (r .number) (r .patches) (r .candidates) (r .waiting) (r .places) (r .quad) ⌝ }
 {
     let c = look(

@@ -10,7 +10,7 @@ use internal::no_quad;
 use internal::verdict_of;
 ghost use Rattle.frame.specs.Image.{image};
 ghost use Rattle.candidates.specs.Areas.{areas};
-ghost use Rattle.fiducials.specs.Doors.{Detection};
+ghost use Rattle.fiducials.specs.Contracts.{Detection};
 
 pub mod internal;
 
@@ -66,8 +66,10 @@ pub fn detect_fiducials(
     blob_index: &mut [u32],
 ) -> Detected
     ensures { λ r. ⌜ Detection (image w h (now (capture .entry))) frame
-        (areas (now (luma .entry)) (now (integral .entry)) (now (mask .entry)) (now (seen .entry)) (now (waiting .entry)) (now (patches .entry)) (now (candidates .entry)) (now («blob_index» .entry)))
-        (areas (now (luma .exit)) (now (integral .exit)) (now (mask .exit)) (now (seen .exit)) (now (waiting .exit)) (now (patches .exit)) (now (candidates .exit)) (now («blob_index» .exit)))
+        (areas (now (luma .entry)) (now (integral .entry)) (now (mask .entry)) (now (seen .entry))
+        (now (waiting .entry)) (now (patches .entry)) (now (candidates .entry)) (now («blob_index» .entry)))
+        (areas (now (luma .exit)) (now (integral .exit)) (now (mask .exit)) (now (seen .exit)) (now (waiting .exit))
+        (now (patches .exit)) (now (candidates .exit)) (now («blob_index» .exit)))
         (r .verdict) (r .patches) (r .candidates) (r .waiting) (r .places) (r .quad) ⌝ }
 {
     let lengths = Lengths {

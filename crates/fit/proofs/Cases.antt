@@ -18,7 +18,7 @@ use Rattle.fit.specs.declared.Fitted.{Fitted}
 use Rattle.fit.specs.declared.Grade.{Grade}
 use Rattle.fit.specs.declared.GridScore.the-variants as S
 use Rattle.fit.specs.Fits.{undistorted, fitsFor, fitFor, unfitted, fittedFor}
-use Rattle.fit.specs.Doors.{fittedAs, fittedBy, scoredAs}
+use Rattle.fit.specs.Contracts.{fittedAs, fittedBy, scoredAs}
 
 -- what is the same for every number from two on
 pub from-two : {A : Type 0} (f : ℕ → A) (v : A) → ((m : ℕ) → f (suc (suc m)) ≡ v) → (n : ℕ) → (n ≡ 0 → ⊥) → (n ≡ 1 → ⊥) → v ≡ f n
@@ -56,7 +56,8 @@ module _ (tests : List Check) (t : GeometryFit) where
   unfolding fittedBy fittedAs
   fitted-refused n e = sym (ap (λ m. fittedAs m t) e)
 
-pub fitted-answer : (w h : ℕ) (f : FrameSpec) (q : Quad) (k : Float) (tests : List Check) → lowestOf tests ≡ lowestOf (check 10 (not (fitsFor w h f q k)) ∷ []) → fittedFor w h f q k ≡ fittedBy tests (fitFor w h f q k)
+pub fitted-answer : (w h : ℕ) (f : FrameSpec) (q : Quad) (k : Float) (tests : List Check) → lowestOf tests
+    ≡ lowestOf (check 10 (not (fitsFor w h f q k)) ∷ []) → fittedFor w h f q k ≡ fittedBy tests (fitFor w h f q k)
 unfolding fittedFor fittedBy lowestOf
 fitted-answer w h f q k tests e = go (fitsFor w h f q k) ∙ sym (ap (λ m. fittedAs m (fitFor w h f q k)) e)
   where

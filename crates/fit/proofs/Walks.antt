@@ -24,7 +24,8 @@ use Rattle.frame.specs.declared.FrameSpec.{FrameSpec}
 use Rattle.fit.specs.declared.GeometryFit.{GeometryFit}
 use Rattle.fit.specs.declared.Grade.{Grade}
 use Rattle.fit.specs.declared.Grade.the-variants.{Score, Outside, TooFew}
-use Rattle.fit.specs.Grid.{across, down, tapPlace, luma64, tapOutside, Walk, Going, Ended, tapStep, cellStep, rowStep, walked, listed, mean, variance, tap, cellTap, cellMean, cellVariance, fisher, fisherOf, gradeFrom, gradeOf}
+use Rattle.fit.specs.Grid.{across, down, tapPlace, luma64, tapOutside, Walk, Going, Ended, tapStep, cellStep, rowStep, walked, listed, mean, variance, tap}
+use Rattle.fit.specs.Grid.{cellTap, cellMean, cellVariance, fisher, fisherOf, gradeFrom, gradeOf}
 
 -- the walk that the loops' variables stand for
 abbrev pub walkOf : Bool → ℕ → Walk

@@ -14,9 +14,15 @@ use Rattle.fit.specs.declared.GeometryFit.{GeometryFit}
 use Rattle.fit.specs.declared.Fitted.{Fitted}
 
 abbrev pub undistorted : Radial → Quad → Quad
-undistorted l q = record { tl = undistort l (q .tl); tr = undistort l (q .tr); br = undistort l (q .br); bl = undistort l (q .bl) }
+undistorted l q = record {
+  tl = undistort l (q .tl);
+  tr = undistort l (q .tr);
+  br = undistort l (q .br);
+  bl = undistort l (q .bl);
+}
 
--- `fit_for`: "a Radial with the capture's centre and norm", and "the homography that this gives from the marker centres to the four centres undistorted"
+-- `fit_for`: "a Radial with the capture's centre and norm", and "the homography that this gives from the marker
+-- centres to the four centres undistorted"
 unfoldable pub fitsFor : ℕ → ℕ → FrameSpec → Quad → Float → Bool
 fitsFor w h f q k = hasHomography (markerCenters f) (undistorted (radial w h k) q)
 

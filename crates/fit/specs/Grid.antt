@@ -38,7 +38,10 @@ tapShare (suc (suc n)) = d64 7 10
 
 unfoldable pub tapPlace : FrameSpec → GeometryFit → ℕ → ℕ → ℕ → Point
 tapPlace f fit c r i =
-    placed fit (record { x = f64 (cellX f c) ⊕ tapShare (i % 3) ⊗ f64 (f .cell); y = f64 (cellY f r) ⊕ tapShare (i / 3) ⊗ f64 (f .cell) })
+    placed fit (record {
+      x = f64 (cellX f c) ⊕ tapShare (i % 3) ⊗ f64 (f .cell);
+      y = f64 (cellY f r) ⊕ tapShare (i / 3) ⊗ f64 (f .cell);
+    })
 
 -- "A tap is outside when x < 0, y < 0, x ≥ w or y ≥ h; a NaN coordinate compares false"
 unfoldable pub tapOutside : Image → FrameSpec → GeometryFit → ℕ → ℕ → ℕ → Bool
@@ -72,7 +75,8 @@ cellMean img f fit x y = mean (cellTap img f fit x y) 9
 unfoldable pub cellVariance : Image → FrameSpec → GeometryFit → ℕ → ℕ → Float
 cellVariance img f fit x y = variance (cellTap img f fit x y) 9 (cellMean img f fit x y)
 
--- the Rust's Fisher ratio of n cells with the given means: their variance over the mean variance within them, which counts as one more
+-- the Rust's Fisher ratio of n cells with the given means: their variance over the mean variance within them, which
+-- counts as one more
 unfoldable pub fisherOf : (ℕ → Float) → Float → ℕ → Float
 fisherOf means within n = variance means n (mean means n) ⊘ (within ⊘ f64 n ⊕ f64 1)
 
@@ -92,7 +96,8 @@ onGoing next (Ended cell) = Ended cell
 
 -- "the number row·cols + column"
 abbrev pub tapStep : Image → FrameSpec → GeometryFit → ℕ → ℕ → ℕ → Walk → Walk
-tapStep img f fit y x i s = onGoing (cond (tapOutside img f fit (3 * x) (3 * y) i) (Ended (3 * y * cols f + 3 * x)) Going) s
+tapStep img f fit y x i s =
+    onGoing (cond (tapOutside img f fit (3 * x) (3 * y) i) (Ended (3 * y * cols f + 3 * x)) Going) s
 
 unfoldable pub cellStep : Image → FrameSpec → GeometryFit → ℕ → ℕ → Walk → Walk
 cellStep img f fit y x s = turns 9 (tapStep img f fit y x) s
@@ -103,7 +108,8 @@ rowStep img f fit y s = turns (across f) (cellStep img f fit y) s
 unfoldable pub walked : Image → FrameSpec → GeometryFit → Walk
 walked img f fit = turns (down f) (rowStep img f fit) Going
 
--- "The grade is a score with its float, too few cells (under 16), or outside with a cell"; "Outside goes before too few."
+-- "The grade is a score with its float, too few cells (under 16), or outside with a cell"; "Outside goes before too
+-- few."
 abbrev pub gradeFrom : Walk → Grade → Grade
 gradeFrom (Ended cell) g = Outside cell
 gradeFrom Going g = g

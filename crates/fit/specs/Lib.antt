@@ -1,4 +1,4 @@
 -- Definitions that the contracts of this crate cite.
 pub mod Grid
 pub mod Fits
-pub mod Doors
+pub mod Contracts

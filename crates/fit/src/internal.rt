@@ -16,7 +16,7 @@ ghost use Rattle.frame.specs.Image.{image};
 ghost use Rattle.frame.specs.Limits.{FrameHeld, SidesHeld, CaptureHeld};
 ghost use Rattle.fit.specs.Grid.{gradeOf};
 ghost use Rattle.fit.specs.Fits as spec;
-ghost use Rattle.fit.specs.Doors.{sampledCells};
+ghost use Rattle.fit.specs.Contracts.{sampledCells};
 
 // The four centres without the lens.
 fn undistorted(lens: Radial, q: Quad) -> Quad

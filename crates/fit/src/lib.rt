@@ -13,7 +13,7 @@ ghost use lib.ListN.{length};
 ghost use Rattle.frame.specs.Image.{image};
 ghost use Rattle.fit.specs.Grid.{placed};
 ghost use Rattle.fit.specs.Fits.{fitFor};
-ghost use Rattle.fit.specs.Doors as doors;
+ghost use Rattle.fit.specs.Contracts as contracts;
 
 // Canonical to capture: homography, then lens.
 pub struct GeometryFit {
@@ -23,7 +23,7 @@ pub struct GeometryFit {
 
 // The fit for a lens term over four observed points. Refusals 1, 2 (sides), 5 and 10.
 pub fn fit_for(w: usize, h: usize, frame: FrameSpec, points: Quad, k: f64) -> Fitted
-    ensures { λ r. ⌜ r ≡ doors.fittedBy (doors.fitForTests w h frame points k) (fitFor w h frame points k) ⌝ }
+    ensures { λ r. ⌜ r ≡ contracts.fittedBy (contracts.fitForTests w h frame points k) (fitFor w h frame points k) ⌝ }
 {
     if frame::internal::frame_outside(frame) {
         return internal::unfitted(1);
@@ -47,7 +47,8 @@ pub fn grid_score(
     fit: GeometryFit,
     means: &mut [f64],
 ) -> GridScore
-    ensures { λ r. ⌜ doors.Scoring (image w h (now (capture .entry))) frame fit (now (means .entry)) (now (means .exit)) r ⌝ }
+    ensures { λ r. ⌜ contracts.Scoring (image w h (now (capture .entry))) frame fit (now (means .entry))
+        (now (means .exit)) r ⌝ }
 {
     if frame::internal::frame_outside(frame) {
         return GridScore::Refused(1);

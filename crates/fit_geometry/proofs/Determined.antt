@@ -17,18 +17,18 @@ use Rattle.frame.proofs.Lowest.{Rising, lowest-unique, lowest-holds, none-teste
 use Rattle.candidates.specs.Agreement.{SameLook}
 use Rattle.candidates.specs.Areas.{Areas, lengthsOf}
 use Rattle.candidates.specs.Bounds.{Ready}
-use Rattle.candidates.specs.Doors.{Looked}
+use Rattle.candidates.specs.Contracts.{Looked}
 use Rattle.candidates.proofs.Determined as look
 use Rattle.candidates.proofs.Refusing.{rising, upto-six}
-use Rattle.fiducials.specs.Doors.{MarkedBy, centresAt}
-use Rattle.fiducials.specs.Doors.Undetected.{tested, few, shared, crooked}
+use Rattle.fiducials.specs.Contracts.{MarkedBy, centersAt}
+use Rattle.fiducials.specs.Contracts.Undetected.{tested, few, shared, crooked}
 use Rattle.fiducials.proofs.Determined.{undetected-positive}
 use Rattle.fiducials.proofs.Unique.{corners-mark, marked-unique, places-unique}
 use Rattle.search.specs.Stages.{searched}
 use Rattle.fit_geometry.specs.Agreement.{SameTests, SameFit}
-use Rattle.fit_geometry.specs.Doors.{Unfitted, undetected, barren, fitShort, fitTests, stageOf, FittingAfter, Fitting}
+use Rattle.fit_geometry.specs.Contracts.{Unfitted, undetected, barren, fitShort, fitTests, stageOf, FittingAfter, Fitting}
 use Rattle.fit_geometry.specs.declared.PictureFit.{PictureFit}
-use Rattle.fit_geometry.proofs.Picturing.{tests-lowest, fit-ready}
+use Rattle.fit_geometry.proofs.PastTests.{tests-lowest, fit-ready}
 
 -- ---- numbers
 
@@ -101,7 +101,8 @@ module _ (img : Image) (f : FrameSpec) where
     from-seven z h = shown t (none-tested t (g .rises) z) n (lowest-holds (Unfitted img f t) (positive t (g .rises)) n l h)
 
   -- the tests that two calls make do not tell them apart
-  same-lowest : {a a′ : Areas} (t t′ : List Check) → Guarding img f a t → Guarding img f a′ t′ → SameTests t t′ → (n n′ : ℕ) → Lowest (Unfitted img f t) n → Lowest (Unfitted img f t′) n′ → n ≡ n′
+  same-lowest : {a a′ : Areas} (t t′ : List Check) → Guarding img f a t → Guarding img f a′ t′ → SameTests t t′ → (n n′ : ℕ)
+      → Lowest (Unfitted img f t) n → Lowest (Unfitted img f t′) n′ → n ≡ n′
   same-lowest t t′ g g′ e n n′ l l′ = go (lowestOf t) refl
     where
       go : (k : ℕ) → lowestOf t ≡ k → n ≡ n′
@@ -132,14 +133,14 @@ module _ (img : Image) (f : FrameSpec) {t t′ : List Check} {a a′ b b′ : Ar
     places-agree : r .places ≡ r′ .places
     places-agree = places-unique img f (h .accepted yes .patches) (h′ .accepted yes′ .patches) (r .places) (r′ .places) (h .corners yes) (h′ .corners yes′)
 
-    centres-agree : centresAt (b .patches) (r .places) ≡ centresAt (b′ .patches) (r′ .places)
-    centres-agree =
+    centers-agree : centersAt (b .patches) (r .places) ≡ centersAt (b′ .patches) (r′ .places)
+    centers-agree =
         marked-unique img f _ _
         (corners-mark img f (b .patches) (h .accepted yes .firsts) (r .patches) (r .places) (h .corners yes))
         (corners-mark img f (b′ .patches) (h′ .accepted yes′ .firsts) (r′ .patches) (r′ .places) (h′ .corners yes′))
 
     stage-agrees : stageOf r ≡ stageOf r′
-    stage-agrees = h .found yes ∙ ap (searched img f) centres-agree ∙ sym (h′ .found yes′)
+    stage-agrees = h .found yes ∙ ap (searched img f) centers-agree ∙ sym (h′ .found yes′)
 
   ten : 10 ≤ h .number → stageOf r ≡ stageOf r′
   ten z =

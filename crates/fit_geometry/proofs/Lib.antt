@@ -1,3 +1,3 @@
 -- Laws and theorems of this crate.
-pub mod Picturing
+pub mod PastTests
 pub mod Determined

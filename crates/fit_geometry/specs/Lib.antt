@@ -1,3 +1,3 @@
 -- Definitions that the contracts of this crate cite.
-pub mod Doors
+pub mod Contracts
 pub mod Agreement

@@ -1,6 +1,6 @@
 // What `rectify` calls with tested arguments.
+use super::FitReport;
 use super::PictureFit;
-use super::Pictured;
 use candidates::Lengths;
 use candidates::internal::areas_short;
 use candidates::internal::picture_refused;
@@ -27,9 +27,9 @@ ghost use Rattle.frame.specs.Limits.{FrameHeld, CaptureHeld};
 ghost use Rattle.frame.specs.Refusals.{lowestOf, frameOutside};
 ghost use Rattle.candidates.specs.Areas.{areas, pictureTests};
 ghost use Rattle.candidates.specs.Bounds.{Ready};
-ghost use Rattle.fit.specs.Doors.{sampledCells, MeansKept};
+ghost use Rattle.fit.specs.Contracts.{sampledCells, MeansKept};
 ghost use Rattle.search.specs.Stages.{searched};
-ghost use Rattle.fit_geometry.specs.Doors as doors;
+ghost use Rattle.fit_geometry.specs.Contracts as contracts;
 
 // Refusal 3 by the cell means; false where the frame is outside its limits: 1 goes before 3.
 pub fn means_short(frame: FrameSpec, means: usize) -> bool
@@ -51,19 +51,19 @@ pub fn refused(
     means: usize,
 ) -> u32
     ensures { λ r. ⌜ r ≡ lowestOf (pictureTests (image w h (now (capture .entry))) frame
-        (doors.fitShort (image w h (now (capture .entry))) frame lengths means) false) ⌝ }
+        (contracts.fitShort (image w h (now (capture .entry))) frame lengths means) false) ⌝ }
 {
     let short = areas_short(w, h, lengths) | means_short(frame, means);
     picture_refused(capture, w, h, frame, short, false)
 }
 
 // No corners, and so no search.
-fn unsearched(d: Found) -> Pictured
-    ensures { λ r. ⌜ r ≡ doors.unsearched d ⌝ }
+fn unsearched(d: Found) -> FitReport
+    ensures { λ r. ⌜ r ≡ contracts.unsearched d ⌝ }
 {
     let stage = result(begin());
     let places = no_places();
-    Pictured {
+    FitReport {
         number: d.number,
         stage: stage,
         places: places,
@@ -74,14 +74,14 @@ fn unsearched(d: Found) -> Pictured
 }
 
 // The corners d and the search's last stage; 10 where that keeps none.
-fn pictured(d: Found, stage: Stage) -> Pictured
-    ensures { λ r. ⌜ r ≡ doors.pictured d stage ⌝ }
+fn searched_report(d: Found, stage: Stage) -> FitReport
+    ensures { λ r. ⌜ r ≡ contracts.searchedReport d stage ⌝ }
 {
     let kept = stage.kept;
     match kept {
         Outcome::NoHomography => {
             let places = no_places();
-            Pictured {
+            FitReport {
                 number: 10,
                 stage: stage,
                 places: places,
@@ -92,7 +92,7 @@ fn pictured(d: Found, stage: Stage) -> Pictured
         }
         Outcome::Graded(_) => {
             let places = d.places;
-            Pictured {
+            FitReport {
                 number: 0,
                 stage: stage,
                 places: places,
@@ -114,7 +114,8 @@ fn search_lent(
     means: &mut [f64],
 ) -> Stage
     requires { ⌜ CaptureHeld (image w h (now capture)) × FrameHeld frame × (sampledCells frame ≤ length (now means)) ⌝ }
-    ensures { λ r. ⌜ (r ≡ searched (image w h (now (capture .entry))) frame quad) × MeansKept frame (now (means .entry)) (now (means .exit)) ⌝ }
+    ensures { λ r. ⌜ (r ≡ searched (image w h (now (capture .entry))) frame quad)
+        × MeansKept frame (now (means .entry)) (now (means .exit)) ⌝ }
 {
     let n = sampled_cells(frame);
     search(capture, w, h, frame, quad, &mut means[..n])
@@ -135,13 +136,16 @@ pub fn fit_picture(
     candidates: &mut [f64],
     blob_index: &mut [u32],
     means: &mut [f64],
-) -> Pictured
+) -> FitReport
     requires { ⌜ Ready (image w h (now capture)) frame
-        (areas (now luma) (now integral) (now mask) (now seen) (now waiting) (now patches) (now candidates) (now «blob_index»))
+        (areas (now luma) (now integral) (now mask) (now seen) (now waiting) (now patches) (now candidates)
+        (now «blob_index»))
         × (sampledCells frame ≤ length (now means)) ⌝ }
-    ensures { λ r. ⌜ doors.Picturing (image w h (now (capture .entry))) frame
-        (areas (now (luma .entry)) (now (integral .entry)) (now (mask .entry)) (now (seen .entry)) (now (waiting .entry)) (now (patches .entry)) (now (candidates .entry)) (now («blob_index» .entry)))
-        (areas (now (luma .exit)) (now (integral .exit)) (now (mask .exit)) (now (seen .exit)) (now (waiting .exit)) (now (patches .exit)) (now (candidates .exit)) (now («blob_index» .exit)))
+    ensures { λ r. ⌜ contracts.FitPastTests (image w h (now (capture .entry))) frame
+        (areas (now (luma .entry)) (now (integral .entry)) (now (mask .entry)) (now (seen .entry))
+        (now (waiting .entry)) (now (patches .entry)) (now (candidates .entry)) (now («blob_index» .entry)))
+        (areas (now (luma .exit)) (now (integral .exit)) (now (mask .exit)) (now (seen .exit)) (now (waiting .exit))
+        (now (patches .exit)) (now (candidates .exit)) (now («blob_index» .exit)))
         (now (means .entry)) (now (means .exit)) r ⌝ }
 {
     let d = detect(
@@ -164,12 +168,12 @@ pub fn fit_picture(
     }
     let quad = d.quad;
     let stage = search_lent(capture, w, h, frame, quad, means);
-    pictured(d, stage)
+    searched_report(d, stage)
 }
 
 // The answer of fit_geometry.
-pub fn answer(p: Pictured) -> PictureFit
-    ensures { λ r. ⌜ r ≡ doors.answerOf p ⌝ }
+pub fn answer(p: FitReport) -> PictureFit
+    ensures { λ r. ⌜ r ≡ contracts.answerOf p ⌝ }
 {
     let verdict = verdict_of(p.number);
     let stage = p.stage;
@@ -190,12 +194,12 @@ pub fn answer(p: Pictured) -> PictureFit
 }
 
 // Refused by a test.
-pub fn untested(number: u32) -> PictureFit
-    ensures { λ r. ⌜ r ≡ doors.answerOf (doors.untested number) ⌝ }
+pub fn refused_by_test(number: u32) -> PictureFit
+    ensures { λ r. ⌜ r ≡ contracts.answerOf (contracts.refusedByTest number) ⌝ }
 {
     let stage = result(begin());
     let places = no_places();
-    let p = Pictured {
+    let p = FitReport {
         number: number,
         stage: stage,
         places: places,

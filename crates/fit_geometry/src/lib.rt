@@ -8,13 +8,13 @@ use search::Outcome;
 use search::Stage;
 ghost use Rattle.frame.specs.Image.{image};
 ghost use Rattle.candidates.specs.Areas.{areas};
-ghost use Rattle.fit_geometry.specs.Doors.{Fitting};
+ghost use Rattle.fit_geometry.specs.Contracts.{Fitting};
 
 pub mod internal;
 
 // What a detection and a search give: 0 or a number from 7 on, the search's last stage, the corners'
 // places, and how much of the lists is filled.
-pub struct Pictured {
+pub struct FitReport {
     pub number: u32,
     pub stage: Stage,
     pub places: Places,
@@ -57,8 +57,10 @@ pub fn fit_geometry(
     means: &mut [f64],
 ) -> PictureFit
     ensures { λ r. ⌜ Fitting (image w h (now (capture .entry))) frame
-        (areas (now (luma .entry)) (now (integral .entry)) (now (mask .entry)) (now (seen .entry)) (now (waiting .entry)) (now (patches .entry)) (now (candidates .entry)) (now («blob_index» .entry)))
-        (areas (now (luma .exit)) (now (integral .exit)) (now (mask .exit)) (now (seen .exit)) (now (waiting .exit)) (now (patches .exit)) (now (candidates .exit)) (now («blob_index» .exit)))
+        (areas (now (luma .entry)) (now (integral .entry)) (now (mask .entry)) (now (seen .entry))
+        (now (waiting .entry)) (now (patches .entry)) (now (candidates .entry)) (now («blob_index» .entry)))
+        (areas (now (luma .exit)) (now (integral .exit)) (now (mask .exit)) (now (seen .exit)) (now (waiting .exit))
+        (now (patches .exit)) (now (candidates .exit)) (now («blob_index» .exit)))
         (now (means .entry)) (now (means .exit)) r ⌝ }
 {
     let lengths = Lengths {
@@ -73,7 +75,7 @@ pub fn fit_geometry(
     };
     let number = internal::refused(capture, w, h, frame, lengths, means.len());
     if number != 0 {
-        return internal::untested(number);
+        return internal::refused_by_test(number);
     }
     let p = internal::fit_picture(
         capture,

@@ -78,7 +78,8 @@ signumOf (fin s m e) = fin s 1 (pos 0)
 unfoldable pub maxOf : Float → Float → Float
 maxOf x y = cond (isNan x) y (cond (lt x y) y x)
 
--- Rust's clamp: a NaN stays. Where lo is above hi, or one of them a NaN, Rust panics; here the tests are made in this order
+-- Rust's clamp: a NaN stays. Where lo is above hi, or one of them a NaN, Rust panics; here the tests are made in this
+-- order
 unfoldable pub clampOf : Float → Float → Float → Float
 clampOf lo hi x = cond (lt x lo) lo (cond (lt hi x) hi x)
 

@@ -126,7 +126,8 @@ module _ (w h : ℕ) where
         let far : (k m : ℕ) → k < 3 → m < 3 → j + k ≡ i + m → ⊥ = λ k m p q e. away (omega arith) in
         rgb-equal _ _ (kept j (λ m q e. far 0 m (omega arith) q (omega arith))) (kept (j + 1) (λ m q e. far 1 m (omega arith) q e)) (kept (j + 2) (λ m q e. far 2 m (omega arith) q e))
       where
-        kept : (z : ℕ) → ((m : ℕ) → m < 3 → z ≡ (y * w + x) * 3 + m → ⊥) → getD (set (set (set l ((y * w + x) * 3) (c .r)) ((y * w + x) * 3 + 1) (c .g)) ((y * w + x) * 3 + 2) (c .b)) z 0 ≡ getD l z 0
+        kept : (z : ℕ) → ((m : ℕ) → m < 3 → z ≡ (y * w + x) * 3 + m → ⊥) → getD (set (set (set l ((y * w + x) * 3) (c .r)) ((y * w + x) * 3
+            + 1) (c .g)) ((y * w + x) * 3 + 2) (c .b)) z 0 ≡ getD l z 0
         kept z f =
             let i = (y * w + x) * 3 in
             let b0 = set l i (c .r) in

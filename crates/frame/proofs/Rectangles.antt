@@ -56,7 +56,8 @@ module _ (w h : ℕ) (l : List ℕ) (fits : length l ≡ 3 * w * h) where
   pub rect-shows : (x0 y0 width height : ℕ) (c : Rgb) → Shows w h (withRect (image w h l) x0 y0 width height c) (λ x y. cond (inRect x0 y0 width height x y) c (px (image w h l) x y))
   rect-shows = painted-shows w h l fits
 
-  pub shows-rect : (x0 y0 width height : ℕ) (c : Rgb) (b : List ℕ) → length b ≡ 3 * w * h → Shows w h b (λ x y. cond (inRect x0 y0 width height x y) c (px (image w h l) x y)) → b ≡ withRect (image w h l) x0 y0 width height c
+  pub shows-rect : (x0 y0 width height : ℕ) (c : Rgb) (b : List ℕ) → length b ≡ 3 * w * h
+      → Shows w h b (λ x y. cond (inRect x0 y0 width height x y) c (px (image w h l) x y)) → b ≡ withRect (image w h l) x0 y0 width height c
   unfolding withRect
   shows-rect x0 y0 width height c b e s = shows-filled w h _ l b fits e s
 
@@ -114,7 +115,14 @@ module _ (w h : ℕ) (l : List ℕ) (fits : length l ≡ 3 * w * h) where
               ∙ rect-shows x0 y (x - x0) 1 c x′ y′ p q
               ∙ ap (λ t. cond t c (px (image w h l) x′ y′))
               (same-test (inRect x0 y (x - x0) 1 x′ y′) (inRect x0 y (x + 1 - x0) 1 x′ y′)
-              (λ i. let r = rect-within x0 y (x - x0) 1 x′ y′ i in within-rect x0 y (x + 1 - x0) 1 x′ y′ (record { left = omega arith; right = omega arith; top = omega arith; bottom = omega arith }))
+              (λ i. let r = rect-within x0 y (x - x0) 1 x′ y′ i in
+              within-rect x0 y (x + 1 - x0) 1 x′ y′ (record {
+                left = omega arith;
+                right = omega arith;
+                top = omega arith;
+                bottom = omega
+                    arith;
+              }))
               (λ i. let r = rect-within x0 y (x + 1 - x0) 1 x′ y′ i in
               let k : x′ ≡ x → ⊥ = λ z. n z (let s : y ≤ y′ = r .top in let s′ : y′ < y + 1 = r .bottom in omega arith) in
               within-rect x0 y (x - x0) 1 x′ y′ (record { left = r .left; right = shorter r k; top = r .top; bottom = r .bottom })))

@@ -1,5 +1,5 @@
--- Answers that carry a value or the number of a refusal: document 01's number and value for each case, and the answer that a call's tests and value
--- give. The crates above have answers of their own, defined alike. Assumes nothing.
+-- Answers that carry a value or the number of a refusal: document 01's number and value for each case, and the answer
+-- that a call's tests and value give. The crates above have answers of their own, defined alike. Assumes nothing.
 use Prim.Native.Nat.{ℕ, zero, suc}
 use mathlib.Core.List.{List}
 use Rattle.frame.specs.Refusals.{Check, lowestOf}

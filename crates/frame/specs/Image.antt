@@ -48,14 +48,16 @@ withPixel img x y c =
     let i = (y * img .w + x) * 3 in
     set (set (set (img .bytes) i (c .r)) (i + 1) (c .g)) (i + 2) (c .b)
 
--- `fill_rect`: the pixel lies in the rectangle of the given width and height whose top left pixel is in column x0 and row y0
+-- `fill_rect`: the pixel lies in the rectangle of the given width and height whose top left pixel is in column x0 and
+-- row y0
 unfoldable pub inRect : ℕ → ℕ → ℕ → ℕ → ℕ → ℕ → Bool
 inRect x0 y0 width height x y = leb x0 x && ltb x (x0 + width) && leb y0 y && ltb y (y0 + height)
 
 -- .. and the bytes once the rectangle has the colour c ("clipped": only pixels of the picture are asked)
 unfoldable pub withRect : Image → ℕ → ℕ → ℕ → ℕ → Rgb → List ℕ
 withRect img x0 y0 width height c =
-    filled (byteOf (img .w) (λ x y. cond (inRect x0 y0 width height x y) c (px img x y))) (3 * img .w * img .h) (img .bytes)
+    filled (byteOf (img .w) (λ x y. cond (inRect x0 y0 width height x y) c (px img x y))) (3 * img .w * img .h)
+    (img .bytes)
 
 -- "A tap is outside when x < 0, y < 0, x ≥ w or y ≥ h; a NaN coordinate compares false"
 unfoldable pub outside : ℕ → ℕ → Float → Float → Bool

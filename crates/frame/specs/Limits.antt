@@ -1,4 +1,5 @@
--- The limits of document 01 ("Limits: ..") as bounds: what the functions behind the public ones require. Assumes nothing.
+-- The limits of document 01 ("Limits: ..") as bounds: what the functions behind the public ones require. Assumes
+-- nothing.
 use Prim.Native.Nat.{ℕ, _*_, _≤_}
 use mathlib.Core.Path.{_≡_}
 use lib.ListN.{length}

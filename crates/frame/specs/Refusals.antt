@@ -1,4 +1,5 @@
--- Limits and refusals (document 01, "Limits" and "Refusals by who can cause them"): what every layer shares. Assumes nothing.
+-- Limits and refusals (document 01, "Limits" and "Refusals by who can cause them"): what every layer shares. Assumes
+-- nothing.
 use Prim.Native.Nat.{ℕ, zero, suc, _*_, _<_}
 use mathlib.Core.Path.{_≡_}
 use mathlib.Core.Bool.{Bool, cond, not, _&&_, _||_}
@@ -22,7 +23,8 @@ unfoldable pub verdictOf : ℕ → Verdict
 verdictOf zero = Accepted
 verdictOf (suc n) = Refused (suc n)
 
--- "The lowest number that applies is given": n is the lowest number whose condition C n holds, or 0 where no condition holds
+-- "The lowest number that applies is given": n is the lowest number whose condition C n holds, or 0 where no
+-- condition holds
 pub data Lowest (C : ℕ → Type 0) (n : ℕ) : Type 0 where
   accepted : n ≡ 0 → ((k : ℕ) → C k → ⊥) → Lowest C n
   refused : C n → ((k : ℕ) → k < n → C k → ⊥) → Lowest C n

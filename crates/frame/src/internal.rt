@@ -149,7 +149,8 @@ pub fn fill_rect(
     height: usize,
     c: Rgb,
 )
-    requires { ⌜ (x0 + width < 2 ^ 64) × (y0 + height < 2 ^ 64) × (w ≤ 4096) × (h ≤ 4096) × (length (now bytes) ≡ 3 * w * h) ⌝ }
+    requires { ⌜ (x0 + width < 2 ^ 64) × (y0 + height < 2 ^ 64) × (w ≤ 4096) × (h ≤ 4096) × (length (now bytes)
+        ≡ 3 * w * h) ⌝ }
     ensures { λ _. ⌜ now (bytes .exit) ≡ withRect (image w h (now (bytes .entry))) x0 y0 width height c ⌝ }
 {
     let x1 = min(x0 + width, w);

@@ -9,14 +9,14 @@ use Rattle.frame.specs.declared.FrameSpec.{FrameSpec}
 use Rattle.frame.specs.declared.Verdict.the-variants.{Accepted}
 use Rattle.frame.proofs.Given.{verdict-number}
 use Rattle.candidates.proofs.Refusing.{rising, upto-six}
-use Rattle.fit.specs.Doors.{MeansKept}
+use Rattle.fit.specs.Contracts.{MeansKept}
 use Rattle.fit.specs.declared.GeometryFit.{GeometryFit}
 use Rattle.fit_geometry.specs.Agreement.{SameTests, SameFit}
-use Rattle.fit_geometry.specs.Doors.{FittingAfter}
+use Rattle.fit_geometry.specs.Contracts.{FittingAfter}
 use Rattle.fit_geometry.specs.declared.PictureFit.{PictureFit}
 use Rattle.fit_geometry.proofs.Determined.{Kind, fine, low, high, kind, Guarding, none-where, same-fit}
 use Rattle.geometry.specs.Warp.{reading, warped}
-use Rattle.geometry.specs.Doors.{canonicalLength}
+use Rattle.geometry.specs.Contracts.{canonicalLength}
 use Rattle.geometry.specs.Rectification.{Lent, rectifyTests, Rectification}
 use Rattle.geometry.specs.Agreement.{Agreement}
 use Rattle.geometry.proofs.Rectifying.{passed}

@@ -10,7 +10,7 @@ use Rattle.frame.specs.declared.Verdict.the-variants as D
 use Rattle.frame.proofs.Given.{verdict-refused, verdict-accepted}
 use Rattle.fit.specs.declared.GeometryFit.{GeometryFit}
 use Rattle.geometry.specs.Warp.{warped}
-use Rattle.geometry.specs.Doors.{warpTests, Warping}
+use Rattle.geometry.specs.Contracts.{warpTests, Warping}
 
 module _ (img : Image) (f : FrameSpec) (fit : GeometryFit) (canonical : List ℕ) where
   pub warping-refused : (n : ℕ) → lowestOf (warpTests img f canonical) ≡ suc n → Warping img f fit canonical canonical (D.Refused (suc n))

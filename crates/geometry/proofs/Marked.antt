@@ -11,7 +11,7 @@ use Rattle.frame.specs.Refusals.{lowestOf, cellHeld, sideTests, sidesWrong, sid
 use Rattle.frame.specs.declared.Number.the-variants.{Is}
 use Rattle.frame.specs.declared.FrameSpec.{FrameSpec}
 use Rattle.markers.specs.Answers.{centersFor, centersAs}
-use Rattle.markers.specs.Doors.{cellTests, layoutTests}
+use Rattle.markers.specs.Contracts.{cellTests, layoutTests}
 use Rattle.markers.specs.Layout.{markerCenters}
 use Rattle.markers.specs.declared.Centers.the-variants.{Are, Refused}
 use Rattle.markers.proofs.Marked as markers

@@ -14,7 +14,8 @@ pub length-mid : {A : Type 0} (a k : ℕ) (b : List A) → a + k ≤ length b �
 length-mid a k b h = length-take-le k (drop a b) (omega (arith, length-drop a b))
 
 -- the table f was written up to a, and a callee wrote the n entries g 0, g 1, .. that follow into the part from a to e
-pub part-filled : {A : Type 0} (f g : ℕ → A) (l : List A) (a e n : ℕ) {b x : List A} → e ≡ a + n → e ≤ length b → b ≡ filled f a l → ((j : ℕ) → j < n → g j ≡ f (a + j)) → x ≡ filled g n (midOf a (e - a) b) → putMid a (e - a) b x ≡ filled f e l
+pub part-filled : {A : Type 0} (f g : ℕ → A) (l : List A) (a e n : ℕ) {b x : List A} → e ≡ a + n → e ≤ length b → b ≡ filled f a l
+    → ((j : ℕ) → j < n → g j ≡ f (a + j)) → x ≡ filled g n (midOf a (e - a) b) → putMid a (e - a) b x ≡ filled f e l
 part-filled f g l a e n {b} {x} h room before same wrote =
     let k : e - a ≡ n = omega arith in
     let part = midOf a (e - a) b in

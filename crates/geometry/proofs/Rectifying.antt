@@ -14,14 +14,14 @@ use Rattle.frame.proofs.Lowest.{none-tested}
 use Rattle.candidates.specs.Areas.{Areas, lengthsOf}
 use Rattle.candidates.specs.Bounds.{Ready}
 use Rattle.candidates.proofs.Refusing.{clear, rising, upto-six}
-use Rattle.fit.specs.Doors.{sampledCells}
+use Rattle.fit.specs.Contracts.{sampledCells}
 use Rattle.fit.specs.declared.GeometryFit.{GeometryFit}
-use Rattle.fit_geometry.specs.Doors.{fitShort, Picturing, answerOf, untested}
-use Rattle.fit_geometry.specs.declared.Pictured.{Pictured}
+use Rattle.fit_geometry.specs.Contracts.{fitShort, FitPastTests, answerOf, refusedByTest}
+use Rattle.fit_geometry.specs.declared.FitReport.{FitReport}
 use Rattle.fit_geometry.specs.declared.PictureFit.{PictureFit}
-use Rattle.fit_geometry.proofs.Picturing.{fit-room, tests-lowest}
+use Rattle.fit_geometry.proofs.PastTests.{fit-room, tests-lowest}
 use Rattle.geometry.specs.Warp.{warped}
-use Rattle.geometry.specs.Doors.{canonicalLength, canonicalWrong}
+use Rattle.geometry.specs.Contracts.{canonicalLength, canonicalWrong}
 use Rattle.geometry.specs.Rectification.{Lent, lent, rectifyTests, laidWhere, Seen, Rectification}
 
 -- ---- the canonical image
@@ -60,8 +60,8 @@ module _ (img : Image) (f : FrameSpec) (a : Lent) where
   abbrev wrong : Bool
   wrong = canonicalWrong f (length (a .canonical))
 
-  refusing : (n : ℕ) → n ≡ lowestOf (rectifyTests img f a) → 1 ≤ n → Rectification img f a a (answerOf (untested n))
-  unfolding answerOf untested
+  refusing : (n : ℕ) → n ≡ lowestOf (rectifyTests img f a) → 1 ≤ n → Rectification img f a a (answerOf (refusedByTest n))
+  unfolding answerOf refusedByTest
   refusing n e h =
       let r = tests-lowest img f (rectifyTests img f a) (rising img f short wrong) (upto-six img f short wrong) n e h in
       let s : n ≤ 6 = r .1 in
@@ -77,11 +77,11 @@ module _ (img : Image) (f : FrameSpec) (a : Lent) where
         nowhere = λ x. refl;
       }
 
-  pub rectify-refused : (n : ℕ) (r : PictureFit) → n ≡ lowestOf (rectifyTests img f a) → (n ≡ 0 → ⊥) → r ≡ answerOf (untested n) → Rectification img f a a r
+  pub rectify-refused : (n : ℕ) (r : PictureFit) → n ≡ lowestOf (rectifyTests img f a) → (n ≡ 0 → ⊥) → r ≡ answerOf (refusedByTest n) → Rectification img f a a r
   rectify-refused zero r e h p = absurd (h refl)
   rectify-refused (suc n) r e h p = subst (Rectification img f a a) (sym p) (refusing (suc n) e (omega arith))
 
-  module _ (b : Areas) (means : List Float) (p : Pictured) (e : lowestOf (rectifyTests img f a) ≡ 0) (h : Picturing img f (a .areas) b (a .means) means p) where
+  module _ (b : Areas) (means : List Float) (p : FitReport) (e : lowestOf (rectifyTests img f a) ≡ 0) (h : FitPastTests img f (a .areas) b (a .means) means p) where
     abbrev out : List ℕ
     out = laidWhere (p .number) img f (p .stage .fit) (a .canonical)
 
@@ -115,5 +115,6 @@ module _ (img : Image) (f : FrameSpec) (a : Lent) where
           nowhere = h .nowhere;
         }
 
-    pub rectify-pictured : (canonical : List ℕ) (r : PictureFit) → canonical ≡ out → r ≡ answerOf p → Rectification img f a (lent b means canonical) r
-    rectify-pictured canonical r c q = subst (Rectification img f a (lent b means canonical)) (sym q) (subst (λ (x : List ℕ). Rectification img f a (lent b means x) (answerOf p)) (sym c) rectifying)
+    pub rectify-reported : (canonical : List ℕ) (r : PictureFit) → canonical ≡ out → r ≡ answerOf p → Rectification img f a (lent b means canonical) r
+    rectify-reported canonical r c q = subst (Rectification img f a (lent b means canonical)) (sym q) (subst (λ (x : List ℕ). Rectification
+        img f a (lent b means x) (answerOf p)) (sym c) rectifying)

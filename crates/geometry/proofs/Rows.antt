@@ -23,7 +23,8 @@ module _ (img : Image) (fit : GeometryFit) (y : ℕ) where
       ∙ ap (λ i. channel k (reading img fit i y)) (digits-div x b)
 
   -- a pixel's three stores
-  pub pixel-stored : (x : ℕ) (l : List ℕ) (p : Rgb) {b : List ℕ} → p ≡ reading img fit x y → b ≡ filled (rowByte img fit y) (x * 3) l → set (set (set b (x * 3) (p .r)) (x * 3 + 1) (p .g)) (x * 3 + 2) (p .b) ≡ filled (rowByte img fit y) ((x + 1) * 3) l
+  pub pixel-stored : (x : ℕ) (l : List ℕ) (p : Rgb) {b : List ℕ} → p ≡ reading img fit x y → b ≡ filled (rowByte img fit y) (x * 3) l
+      → set (set (set b (x * 3) (p .r)) (x * 3 + 1) (p .g)) (x * 3 + 2) (p .b) ≡ filled (rowByte img fit y) ((x + 1) * 3) l
   unfolding channel
   pixel-stored x l p q e =
       let f = rowByte img fit y in

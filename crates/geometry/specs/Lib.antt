@@ -1,6 +1,6 @@
 -- Definitions that the contracts of this crate cite.
 pub mod Warp
-pub mod Doors
+pub mod Contracts
 pub mod Rectification
 pub mod Agreement
 pub mod Marked

@@ -1,5 +1,6 @@
--- "M1 to M12 form one proved group under one theorem over the meanings" (document 01, "Marked and other examples"). Each field has the sentence that it
--- stands for, over the definitions that the public functions' contracts cite. proofs/Marked has the proof. Assumes nothing.
+-- "M1 to M12 form one proved group under one theorem over the meanings" (document 01, "Marked and other examples").
+-- Each field has the sentence that it stands for, over the definitions that the public functions' contracts cite.
+-- proofs/Marked has the proof. Assumes nothing.
 use mathlib.Core.Path.{_≡_}
 use mathlib.Core.Bool.{true, false}
 use mathlib.Core.List.{List, [], _∷_}
@@ -13,7 +14,7 @@ use Rattle.frame.specs.declared.FrameSpec.{FrameSpec}
 use Rattle.frame.specs.declared.Number.the-variants.{Is}
 use Rattle.frame.specs.declared.Point.{Point}
 use Rattle.markers.specs.Answers.{centersFor}
-use Rattle.markers.specs.Doors.{cellTests, layoutTests}
+use Rattle.markers.specs.Contracts.{cellTests, layoutTests}
 use Rattle.markers.specs.Layout.{markerSize, quietZone, marginFor, markerCenters}
 use Rattle.markers.specs.declared.Centers.{Centers}
 use Rattle.markers.specs.declared.Centers.the-variants.{Are, Refused}
@@ -51,7 +52,8 @@ list8 = 7 ∷ 7 ∷ 8 ∷ 0 ∷ 0 ∷ 2 ∷ 2 ∷ []
 
 -- what `label_blobs` leaves of a mask m, three by three: just these records, whatever the areas held
 abbrev pub Labelled : List ℕ → List Blob → Type 0
-Labelled m blobs = (s k l s′ k′ l′ : List ℕ) (n most : ℕ) → Labels m 3 3 s k l s′ k′ l′ n most → table (patchAt l′) n ≡ blobs
+Labelled m blobs =
+    (s k l s′ k′ l′ : List ℕ) (n most : ℕ) → Labels m 3 3 s k l s′ k′ l′ n most → table (patchAt l′) n ≡ blobs
 
 abbrev pub blob : ℕ → ℕ → ℕ → ℕ → ℕ → ℕ → ℕ → Blob
 blob area sx sy x0 y0 x1 y1 = record { area = area; sx = sx; sy = sy; x0 = x0; y0 = y0; x1 = x1; y1 = y1 }
@@ -89,7 +91,8 @@ pub record Marked : Type 0 where
   pub m5 : centers (frame 192 192 1 47) ≡ Refused 5
   pub m6 : centers (frame 191 192 1 48) ≡ Refused 5
   -- "M7 the mask above": its list, by the meaning of a patch, with the first pixels 0, 2 and 4, and no other
-  pub m7 : PatchList mask7 3 list7 list7 3 (0 ∷ 2 ∷ 4 ∷ []) × Labelled mask7 (blob 1 0 0 0 0 0 0 ∷ blob 1 2 0 2 0 2 0 ∷ blob 3 2 5 0 1 1 2 ∷ [])
+  pub m7 : PatchList mask7 3 list7 list7 3 (0 ∷ 2 ∷ 4 ∷ []) × Labelled mask7 (blob 1 0 0 0 0 0 0 ∷ blob 1 2 0 2 0 2 0
+      ∷ blob 3 2 5 0 1 1 2 ∷ [])
   -- "M8 `#.#`, `#.#`, `###`: one record 7 7 8 0 0 2 2"
   pub m8 : PatchList mask8 3 list8 list8 1 (0 ∷ []) × Labelled mask8 (blob 7 7 8 0 0 2 2 ∷ [])
   -- "M9 14 of 17 probes pass, 13 do not"

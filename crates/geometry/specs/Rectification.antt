@@ -9,16 +9,16 @@ use Rattle.frame.specs.Refusals.{verdictOf, Lowest, Check}
 use Rattle.frame.specs.declared.FrameSpec.{FrameSpec}
 use Rattle.frame.specs.declared.Quad.{Quad}
 use Rattle.candidates.specs.Areas.{Areas, lengthsOf, pictureTests}
-use Rattle.candidates.specs.Doors.{Looked}
+use Rattle.candidates.specs.Contracts.{Looked}
 use Rattle.fiducials.specs.Answers.{noPlaces}
-use Rattle.fiducials.specs.Doors.{MarkedBy, centresAt, Cornered}
+use Rattle.fiducials.specs.Contracts.{MarkedBy, centersAt, Cornered}
 use Rattle.fit.specs.declared.GeometryFit.{GeometryFit}
-use Rattle.fit.specs.Doors.{MeansKept}
-use Rattle.search.specs.Stages.{begun, searched, lastCentre, BestTrial}
-use Rattle.fit_geometry.specs.Doors.{Unfitted, fitShort, stageOf}
+use Rattle.fit.specs.Contracts.{MeansKept}
+use Rattle.search.specs.Stages.{begun, searched, lastCenter, BestTrial}
+use Rattle.fit_geometry.specs.Contracts.{Unfitted, fitShort, stageOf}
 use Rattle.fit_geometry.specs.declared.PictureFit.{PictureFit}
 use Rattle.geometry.specs.Warp.{warped}
-use Rattle.geometry.specs.Doors.{canonicalWrong}
+use Rattle.geometry.specs.Contracts.{canonicalWrong}
 
 -- ---- what is lent: the areas of a look at the picture, the cell means, the canonical image
 pub record Lent : Type 0 where
@@ -30,7 +30,9 @@ abbrev pub lent : Areas → List Float → List ℕ → Lent
 lent areas means canonical = record { areas = areas; means = means; canonical = canonical }
 
 abbrev pub rectifyTests : Image → FrameSpec → Lent → List Check
-rectifyTests img f a = pictureTests img f (fitShort img f (lengthsOf (a .areas)) (length (a .means))) (canonicalWrong f (length (a .canonical)))
+rectifyTests img f a =
+    pictureTests img f (fitShort img f (lengthsOf (a .areas)) (length (a .means)))
+    (canonicalWrong f (length (a .canonical)))
 
 -- the canonical image under a fit that was found, with the number 0; else as it was
 unfoldable pub laidWhere : ℕ → Image → FrameSpec → GeometryFit → List ℕ → List ℕ
@@ -39,20 +41,22 @@ laidWhere (suc n) img f fit canonical = canonical
 
 -- ---- the areas and the answer of a call that is accepted, with the number 0, or refused by 7 to 10
 pub record Seen (img : Image) (f : FrameSpec) (a b : Lent) (r : PictureFit) (number : ℕ) : Type 0 where
-  -- "After an acceptance, and after a refusal by 7 or a higher number, the patch list starts with every patch once, in raster order, and their areas add
-  -- up to the dark pixels."
+  -- "After an acceptance, and after a refusal by 7 or a higher number, the patch list starts with every patch once,
+  -- in raster order, and their areas add up to the dark pixels."
   pub looked : Looked img f (a .areas) (b .areas) (r .patches) (r .candidates) (r .waiting)
   -- "Free: .. cell means"; past the sampled cells they are unchanged
   pub means-rest : MeansKept f (a .means) (b .means)
-  -- "An accepted one names four different patches, one for each corner, each all the dark pixels joined edge to edge, each passing the ring rule. No other
-  -- passing patch lies further out toward that corner, and of equals the first in raster order is named."
+  -- "An accepted one names four different patches, one for each corner, each all the dark pixels joined edge to edge,
+  -- each passing the ring rule. No other passing patch lies further out toward that corner, and of equals the first
+  -- in raster order is named."
   pub corners : number ≡ 0 → Cornered img f (b .areas .patches) (looked .firsts) (r .patches) (r .places)
-  -- "The reported fit is a trial of the last lens stage over those four patches' centres. No other trial of that stage scores more, and no earlier one as
-  -- much."
-  pub best : number ≡ 0 → BestTrial img f (centresAt (b .areas .patches) (r .places)) 2 (lastCentre img f (centresAt (b .areas .patches) (r .places))) (r .fit)
-  -- .. and it is the one that the stages keep, with its grade, "trials tried .. and how many had a homography": this says which trial it is where a NaN
-  -- leaves several
-  pub found : number ≡ 0 → stageOf r ≡ searched img f (centresAt (b .areas .patches) (r .places))
+  -- "The reported fit is a trial of the last lens stage over those four patches' centres. No other trial of that
+  -- stage scores more, and no earlier one as much."
+  pub best : number ≡ 0 → BestTrial img f (centersAt (b .areas .patches) (r .places)) 2
+      (lastCenter img f (centersAt (b .areas .patches) (r .places))) (r .fit)
+  -- .. and it is the one that the stages keep, with its grade, "trials tried .. and how many had a homography": this
+  -- says which trial it is where a NaN leaves several
+  pub found : number ≡ 0 → stageOf r ≡ searched img f (centersAt (b .areas .patches) (r .places))
   -- "78 when accepted"
   pub tried-all : number ≡ 0 → r .tried ≡ 78
   -- "Every canonical pixel is the reading where that fit puts it."
@@ -67,15 +71,16 @@ pub record Rectification (img : Image) (f : FrameSpec) (a b : Lent) (r : Picture
   -- "A refusal returns its number"; 0 is acceptance
   pub number : ℕ
   pub given : r .verdict ≡ verdictOf number
-  -- "a rectification is refused exactly when a condition that document 01 or a later order sets for it holds, by the lowest such number"
+  -- "a rectification is refused exactly when a condition that document 01 or a later order sets for it holds, by the
+  -- lowest such number"
   pub refusal : Lowest (Unfitted img f (rectifyTests img f a)) number
   -- "1 to 6 touch no memory"
   pub untouched : 1 ≤ number → number ≤ 6 → b ≡ a
   -- the areas after 7 to 10, and "Acceptance leaves the same planes, marks and records"
   pub refused : 7 ≤ number → Seen img f a b r number
   pub accepted : number ≡ 0 → Seen img f a b r number
-  -- what an answer holds where there is nothing to tell (document 01 gives a refusal its number only): after 1 to 6 no patch, after 1 to 9 no trial, after any
-  -- refusal no place
+  -- what an answer holds where there is nothing to tell (document 01 gives a refusal its number only): after 1 to 6
+  -- no patch, after 1 to 9 no trial, after any refusal no place
   pub unseen : 1 ≤ number → number ≤ 6 → (r .patches ≡ 0) × (r .candidates ≡ 0) × (r .waiting ≡ 0)
   pub untried : 1 ≤ number → number ≤ 9 → stageOf r ≡ begun 0 0
   pub nowhere : 1 ≤ number → r .places ≡ noPlaces

@@ -3,7 +3,7 @@ use candidates::Lengths;
 use candidates::internal::areas_short;
 use candidates::internal::picture_refused;
 use fit::GeometryFit;
-use fit_geometry::Pictured;
+use fit_geometry::FitReport;
 use fit_geometry::internal::means_short;
 use frame::FrameSpec;
 use frame::Point;
@@ -20,13 +20,13 @@ ghost use Rattle.frame.specs.Image.{image};
 ghost use Rattle.frame.specs.Limits.{FrameHeld, CaptureHeld};
 ghost use Rattle.frame.specs.Refusals.{lowestOf, frameOutside};
 ghost use Rattle.candidates.specs.Areas.{pictureTests};
-ghost use Rattle.fit_geometry.specs.Doors.{fitShort};
+ghost use Rattle.fit_geometry.specs.Contracts.{fitShort};
 ghost use Rattle.geometry.specs.Warp.{reading, rowByte, warped};
-ghost use Rattle.geometry.specs.Doors.{canonicalLength, canonicalWrong};
+ghost use Rattle.geometry.specs.Contracts.{canonicalLength, canonicalWrong};
 ghost use Rattle.geometry.specs.Rectification.{laidWhere};
 
 // The centre of the pixel in column or row n.
-fn centre(n: usize) -> f64
+fn center(n: usize) -> f64
     requires { ⌜ n < 4096 ⌝ }
     ensures { λ r. ⌜ r ≡ f64 n ⊕ d64 5 10 ⌝ }
 {
@@ -39,8 +39,8 @@ fn pixel(capture: &[u8], w: usize, h: usize, fit: GeometryFit, x: usize, y: usiz
     ensures { λ r. ⌜ r ≡ reading (image w h (now (capture .entry))) fit x y ⌝ }
 {
     let c = Point {
-        x: centre(x),
-        y: centre(y),
+        x: center(x),
+        y: center(y),
     };
     let p = fit.map(c);
     sampling::internal::reading(capture, w, h, p)
@@ -56,8 +56,10 @@ pub fn warp_row(
     y: usize,
     row: &mut [u8],
 )
-    requires { ⌜ CaptureHeld (image w h (now capture)) × FrameHeld frame × (y < 4096) × (length (now row) ≡ 3 * frame .width) ⌝ }
-    ensures { λ _. ⌜ now (row .exit) ≡ filled (rowByte (image w h (now (capture .entry))) fit y) (3 * frame .width) (now (row .entry)) ⌝ }
+    requires { ⌜ CaptureHeld (image w h (now capture)) × FrameHeld frame × (y < 4096) × (length (now row)
+        ≡ 3 * frame .width) ⌝ }
+    ensures { λ _. ⌜ now (row .exit) ≡ filled (rowByte (image w h (now (capture .entry))) fit y) (3 * frame .width)
+        (now (row .entry)) ⌝ }
 {
     let width = frame.width;
     for x in 0..width {
@@ -78,8 +80,10 @@ pub fn warp(
     fit: GeometryFit,
     canonical: &mut [u8],
 )
-    requires { ⌜ CaptureHeld (image w h (now capture)) × FrameHeld frame × (length (now canonical) ≡ 3 * frame .width * frame .height) ⌝ }
-    ensures { λ _. ⌜ now (canonical .exit) ≡ warped (image w h (now (capture .entry))) frame fit (now (canonical .entry)) ⌝ }
+    requires { ⌜ CaptureHeld (image w h (now capture)) × FrameHeld frame × (length (now canonical)
+        ≡ 3 * frame .width * frame .height) ⌝ }
+    ensures { λ _. ⌜ now (canonical .exit) ≡ warped (image w h (now (capture .entry))) frame fit
+        (now (canonical .entry)) ⌝ }
 {
     let width = frame.width;
     let size = 3 * width;
@@ -135,11 +139,13 @@ pub fn lay(
     w: usize,
     h: usize,
     frame: FrameSpec,
-    picture: Pictured,
+    picture: FitReport,
     canonical: &mut [u8],
 )
-    requires { ⌜ CaptureHeld (image w h (now capture)) × FrameHeld frame × (length (now canonical) ≡ canonicalLength frame) ⌝ }
-    ensures { λ _. ⌜ now (canonical .exit) ≡ laidWhere (picture .number) (image w h (now (capture .entry))) frame (picture .stage .fit) (now (canonical .entry)) ⌝ }
+    requires { ⌜ CaptureHeld (image w h (now capture)) × FrameHeld frame × (length (now canonical)
+        ≡ canonicalLength frame) ⌝ }
+    ensures { λ _. ⌜ now (canonical .exit) ≡ laidWhere (picture .number) (image w h (now (capture .entry))) frame
+        (picture .stage .fit) (now (canonical .entry)) ⌝ }
 {
     let number = picture.number;
     if number != 0 {

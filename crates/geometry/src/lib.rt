@@ -4,7 +4,7 @@ use fit::GeometryFit;
 use fit_geometry::PictureFit;
 use fit_geometry::internal::answer;
 use fit_geometry::internal::fit_picture;
-use fit_geometry::internal::untested;
+use fit_geometry::internal::refused_by_test;
 use frame::FrameSpec;
 use frame::Verdict;
 use frame::internal::capture_wrong;
@@ -15,7 +15,7 @@ use internal::refused;
 use internal::warp;
 ghost use Rattle.frame.specs.Image.{image};
 ghost use Rattle.candidates.specs.Areas.{areas};
-ghost use Rattle.geometry.specs.Doors.{Warping};
+ghost use Rattle.geometry.specs.Contracts.{Warping};
 ghost use Rattle.geometry.specs.Rectification.{Rectification, lent};
 
 pub mod internal;
@@ -30,7 +30,8 @@ pub fn warp_with(
     fit: GeometryFit,
     canonical: &mut [u8],
 ) -> Verdict
-    ensures { λ r. ⌜ Warping (image w h (now (capture .entry))) frame fit (now (canonical .entry)) (now (canonical .exit)) r ⌝ }
+    ensures { λ r. ⌜ Warping (image w h (now (capture .entry))) frame fit (now (canonical .entry))
+        (now (canonical .exit)) r ⌝ }
 {
     if frame_outside(frame) {
         return Verdict::Refused(1);
@@ -63,8 +64,12 @@ pub fn rectify(
     canonical: &mut [u8],
 ) -> PictureFit
     ensures { λ r. ⌜ Rectification (image w h (now (capture .entry))) frame
-        (lent (areas (now (luma .entry)) (now (integral .entry)) (now (mask .entry)) (now (seen .entry)) (now (waiting .entry)) (now (patches .entry)) (now (candidates .entry)) (now («blob_index» .entry))) (now (means .entry)) (now (canonical .entry)))
-        (lent (areas (now (luma .exit)) (now (integral .exit)) (now (mask .exit)) (now (seen .exit)) (now (waiting .exit)) (now (patches .exit)) (now (candidates .exit)) (now («blob_index» .exit))) (now (means .exit)) (now (canonical .exit)))
+        (lent (areas (now (luma .entry)) (now (integral .entry)) (now (mask .entry)) (now (seen .entry))
+        (now (waiting .entry)) (now (patches .entry)) (now (candidates .entry)) (now («blob_index» .entry)))
+        (now (means .entry)) (now (canonical .entry)))
+        (lent (areas (now (luma .exit)) (now (integral .exit)) (now (mask .exit)) (now (seen .exit))
+        (now (waiting .exit)) (now (patches .exit)) (now (candidates .exit)) (now («blob_index» .exit)))
+        (now (means .exit)) (now (canonical .exit)))
         r ⌝ }
 {
     let lengths = Lengths {
@@ -79,7 +84,7 @@ pub fn rectify(
     };
     let number = refused(capture, w, h, frame, lengths, means.len(), canonical.len());
     if number != 0 {
-        return untested(number);
+        return refused_by_test(number);
     }
     let picture = fit_picture(
         capture,

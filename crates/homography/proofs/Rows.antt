@@ -12,7 +12,8 @@ use Rattle.homography.specs.Equations.{equations}
 use Rattle.homography.specs.Inner.{pointSet, rowSet, minorAt}
 use Rattle.homography.specs.Homography.{productAt, adjugate}
 
-pub rows-set : (src dst : Quad) → pointSet 3 (src .bl) (dst .bl) (pointSet 2 (src .br) (dst .br) (pointSet 1 (src .tr) (dst .tr) (pointSet 0 (src .tl) (dst .tl) (replicate 72 (f64 0))))) ≡ equations src dst
+pub rows-set : (src dst : Quad) → pointSet 3 (src .bl) (dst .bl) (pointSet 2 (src .br) (dst .br) (pointSet 1 (src .tr) (dst .tr) (pointSet 0
+    (src .tl) (dst .tl) (replicate 72 (f64 0))))) ≡ equations src dst
 unfolding equations pointSet rowSet turns
 rows-set src dst = refl
 

@@ -125,7 +125,8 @@ top-is a b = go (ltb a b) refl
     go true e = rw e (omega (arith, ltb→lt a b (rw e tt)))
     go false e = rw e (omega (arith, nltb→le a b (rw e tt)))
 
-reciprocal-cross : (d e : ℕ) (z w : ℤ) → 0 < d → 0 < e → above z * e + below w * d ≡ above w * d + below z * e → Same (reciprocalOf d z) (reciprocalOf e w)
+reciprocal-cross : (d e : ℕ) (z w : ℤ) → 0 < d → 0 < e → above z * e + below w * d ≡ above w * d + below z * e
+    → Same (reciprocalOf d z) (reciprocalOf e w)
 reciprocal-cross d e (pos zero) (pos zero) l r h = refl
 reciprocal-cross d e (pos zero) (pos (suc b)) l r h = absurd (omega (arith, mul-pos {m = suc b} (omega arith) l))
 reciprocal-cross d e (pos zero) (negsuc b) l r h = absurd (omega (arith, mul-pos {m = suc b} (omega arith) l))
@@ -144,7 +145,8 @@ top-cross p n d q m e a b a′ b′ h k l = omega (arith, ap (λ (z : ℕ). z * 
 pub reciprocal-same : (x y : Fraction) → Same x y → Same (reciprocal x) (reciprocal y)
 reciprocal-same x y h =
     reciprocal-cross (x .den) (y .den) (top x) (top y) (x .den-pos) (y .den-pos)
-    (top-cross (x .plus) (x .minus) (x .den) (y .plus) (y .minus) (y .den) _ _ _ _ h (top-is (x .plus) (x .minus)) (top-is (y .plus) (y .minus)))
+    (top-cross (x .plus) (x .minus) (x .den) (y .plus) (y .minus) (y .den) _ _ _ _ h (top-is (x .plus) (x .minus))
+    (top-is (y .plus) (y .minus)))
 
 either-way : (s t : Bool) → (T s → T t) → (T t → T s) → s ≡ t
 either-way true true f g = refl
@@ -159,4 +161,5 @@ equal-follows : (x y x′ y′ : Fraction) → Same x x′ → Same y y′ → T
 equal-follows x y x′ y′ h k t = to-eqb _ _ (same-trans x′ x y′ (sym h) (same-trans x y y′ (eqb→eq _ _ t) k))
 
 pub equal-same : (x y x′ y′ : Fraction) → Same x x′ → Same y y′ → equal x y ≡ equal x′ y′
-equal-same x y x′ y′ h k = either-way (equal x y) (equal x′ y′) (equal-follows x y x′ y′ h k) (equal-follows x′ y′ x y (sym h) (sym k))
+equal-same x y x′ y′ h k =
+    either-way (equal x y) (equal x′ y′) (equal-follows x y x′ y′ h k) (equal-follows x′ y′ x y (sym h) (sym k))

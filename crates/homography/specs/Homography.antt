@@ -80,4 +80,6 @@ abbrev pub apart : Point → Point → Float
 apart p q = squared (p .x ⊖ q .x) ⊕ squared (p .y ⊖ q .y)
 
 unfoldable pub rmsError : Quad → Quad → Float
-rmsError a b = sqrtOf ((f64 0 ⊕ apart (a .tl) (b .tl) ⊕ apart (a .tr) (b .tr) ⊕ apart (a .br) (b .br) ⊕ apart (a .bl) (b .bl)) ⊘ f64 4)
+rmsError a b =
+    sqrtOf ((f64 0 ⊕ apart (a .tl) (b .tl) ⊕ apart (a .tr) (b .tr) ⊕ apart (a .br) (b .br) ⊕ apart (a .bl) (b .bl))
+    ⊘ f64 4)

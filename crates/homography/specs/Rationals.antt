@@ -11,7 +11,8 @@ use lib.Ieee.{Float, nan, inf, fin, up, down}
 use lib.Ieee.Exact.{HasValue}
 use lib.Ieee.Fits.{down-pos}
 use Rattle.homography.specs.Arithmetic.{Arithmetic}
-use Rattle.homography.specs.Fractions.{Fraction, Same, same-equivalence, fraction, sum, opposite, product, reciprocal, equal}
+use Rattle.homography.specs.Fractions.{Fraction, Same, same-equivalence, fraction, sum, opposite, product}
+use Rattle.homography.specs.Fractions.{reciprocal, equal}
 use Rattle.homography.specs.Fractions.{sum-same, opposite-same, product-same, reciprocal-same, equal-same}
 
 abbrev pub fractions : Setoid {0, 0} Fraction
@@ -38,7 +39,9 @@ SameRational = (x y : Fraction) → (rational x ≡ rational y) ↔ Same x y
 infixl 65 _+ℚ_
 unfoldable pub _+ℚ_ : ℚ → ℚ → ℚ
 unfolding Quotient·lift₂
-_+ℚ_ = Quotient·lift₂ fractions fractions ℚ-set (λ x y. rational (sum x y)) (λ x y x′ y′ h k. rational-same (sum-same x y x′ y′ h k))
+_+ℚ_ =
+    Quotient·lift₂ fractions fractions ℚ-set (λ x y. rational (sum x y)) (λ x y x′ y′ h k. rational-same (sum-same x y
+    x′ y′ h k))
 
 infix 75 -ℚ_
 unfoldable pub -ℚ_ : ℚ → ℚ
@@ -48,7 +51,9 @@ unfolding Quotient·lift
 infixl 70 _*ℚ_
 unfoldable pub _*ℚ_ : ℚ → ℚ → ℚ
 unfolding Quotient·lift₂
-_*ℚ_ = Quotient·lift₂ fractions fractions ℚ-set (λ x y. rational (product x y)) (λ x y x′ y′ h k. rational-same (product-same x y x′ y′ h k))
+_*ℚ_ =
+    Quotient·lift₂ fractions fractions ℚ-set (λ x y. rational (product x y)) (λ x y x′ y′ h k. rational-same
+    (product-same x y x′ y′ h k))
 
 -- 1 / x, and 0 for 0
 unfoldable pub inverseℚ : ℚ → ℚ

@@ -8,7 +8,7 @@ use Rattle.frame.specs.declared.FrameSpec.{FrameSpec}
 use Rattle.frame.specs.declared.Verdict.the-variants as D
 use Rattle.frame.proofs.Given.{verdict-refused, verdict-accepted}
 use Rattle.markers.specs.Stamp.{stamped}
-use Rattle.markers.specs.Doors.{cellTests, layoutTests, stampTests, Stamping}
+use Rattle.markers.specs.Contracts.{cellTests, layoutTests, stampTests, Stamping}
 use Rattle.frame.proofs.Lowest.{Rising}
 use Rattle.frame.specs.Refusals.{Check, lowestOf}
 use Rattle.frame.specs.declared.Quad.{Quad}

@@ -7,7 +7,7 @@ use Rattle.frame.specs.Refusals.{lowestOf, frameOutside, side, cellHeld}
 use Rattle.frame.specs.declared.FrameSpec.{FrameSpec}
 use Rattle.frame.specs.declared.Point.{Point}
 use Rattle.markers.specs.Layout.{markerSize, quietZone, marginFor, marker, noLayout, origins, markerCenters}
-use Rattle.markers.specs.Doors.{layoutTests}
+use Rattle.markers.specs.Contracts.{layoutTests}
 
 -- M1 cell 9: 72, 12, 96. M2 cell 10: 80, 13, 106. M3 cell 13: 96, 16, 128.
 pub m1 : (markerSize 9 ≡ 72) × (quietZone 9 ≡ 12) × (marginFor 9 ≡ 96)

@@ -58,7 +58,8 @@ module _ (w h : ℕ) where
   unfolding withSquares
   squares-show l b e = filled-shows w h _ b e
 
-  show-squares : (l : List Square) (b d : List ℕ) → length b ≡ 3 * w * h → length d ≡ 3 * w * h → Shows w h d (λ x y. painted l x y (px (image w h b) x y)) → d ≡ withSquares l (image w h b)
+  show-squares : (l : List Square) (b d : List ℕ) → length b ≡ 3 * w * h → length d ≡ 3 * w * h
+      → Shows w h d (λ x y. painted l x y (px (image w h b) x y)) → d ≡ withSquares l (image w h b)
   unfolding withSquares
   show-squares l b d p q s = shows-filled w h _ b d p q s
 
@@ -80,7 +81,8 @@ module _ (w h : ℕ) where
       ∙ painted-append l k x y (px (image w h b) x y))
 
   -- a picture, once another list of squares is painted over it
-  pub squares-over : (l k : List Square) (b d : List ℕ) {r : List ℕ} → length b ≡ 3 * w * h → d ≡ withSquares l (image w h b) → r ≡ withSquares k (image w h d) → r ≡ withSquares (l ++ k) (image w h b)
+  pub squares-over : (l k : List Square) (b d : List ℕ) {r : List ℕ} → length b ≡ 3 * w * h → d ≡ withSquares l (image w h b) → r
+      ≡ withSquares k (image w h d) → r ≡ withSquares (l ++ k) (image w h b)
   squares-over l k b d e p q = q ∙ ap (λ z. withSquares k (image w h z)) p ∙ squares-append l k b e
 
   -- .. or one square
@@ -92,7 +94,8 @@ module _ (w h : ℕ) where
 
   -- the four fills of a marker
   pub four-squares : (s₁ s₂ s₃ s₄ : Square) (b b₁ b₂ b₃ b₄ : List ℕ) → length b ≡ 3 * w * h
-      → b₁ ≡ rectOf s₁ b → b₂ ≡ rectOf s₂ b₁ → b₃ ≡ rectOf s₃ b₂ → b₄ ≡ rectOf s₄ b₃ → b₄ ≡ withSquares (s₁ ∷ s₂ ∷ s₃ ∷ s₄ ∷ []) (image w h b)
+      → b₁ ≡ rectOf s₁ b → b₂ ≡ rectOf s₂ b₁ → b₃ ≡ rectOf s₃ b₂ → b₄ ≡ rectOf s₄ b₃ → b₄ ≡ withSquares (s₁ ∷ s₂ ∷ s₃ ∷ s₄
+      ∷ []) (image w h b)
   four-squares s₁ s₂ s₃ s₄ b b₁ b₂ b₃ b₄ e f₁ f₂ f₃ f₄ =
       square-over (s₁ ∷ s₂ ∷ s₃ ∷ []) s₄ b b₃ e
       (square-over (s₁ ∷ s₂ ∷ []) s₃ b b₂ e (square-over (s₁ ∷ []) s₂ b b₁ e (f₁ ∙ one-square s₁ b e) f₂) f₃)

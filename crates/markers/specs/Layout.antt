@@ -32,7 +32,9 @@ marker f = f .margin - 2 * quietZone (f .cell)
 
 -- "and is None exactly when margin < 2·quiet, m < 24, or a side < 4·margin"
 unfoldable pub noLayout : FrameSpec → Bool
-noLayout f = ltb (f .margin) (2 * quietZone (f .cell)) || ltb (marker f) 24 || ltb (f .width) (4 * f .margin) || ltb (f .height) (4 * f .margin)
+noLayout f =
+    ltb (f .margin) (2 * quietZone (f .cell)) || ltb (marker f) 24 || ltb (f .width) (4 * f .margin)
+    || ltb (f .height) (4 * f .margin)
 
 -- the markers' top left corners: near is the quiet zone, far leaves room for the marker and the quiet zone
 abbrev pub far : ℕ → ℕ → ℕ → Float

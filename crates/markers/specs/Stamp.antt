@@ -30,8 +30,8 @@ end t = asUsize (maxOf (roundOf t) (f64 0))
 unfoldable pub covers : Square → ℕ → ℕ → Bool
 covers s x y = leb (end (s .x)) x && ltb x (end (s .x ⊕ s .side)) && leb (end (s .y)) y && ltb y (end (s .y ⊕ s .side))
 
--- the four squares of one marker of side m and quiet zone q whose top left corner is at (x, y), in painting order: quiet zone, black ring, white ring,
--- black dot (a unit is a sixth of m)
+-- the four squares of one marker of side m and quiet zone q whose top left corner is at (x, y), in painting order:
+-- quiet zone, black ring, white ring, black dot (a unit is a sixth of m)
 unfoldable pub bullseye : Float → Float → Float → Float → List Square
 bullseye m q x y =
     let u = m ⊘ f64 6 in
@@ -43,7 +43,9 @@ bullseye m q x y =
 
 -- .. and of four markers, in their order
 unfoldable pub bullseyes : Float → Float → Quad → List Square
-bullseyes m q o = bullseye m q (o .tl .x) (o .tl .y) ++ bullseye m q (o .tr .x) (o .tr .y) ++ bullseye m q (o .br .x) (o .br .y) ++ bullseye m q (o .bl .x) (o .bl .y)
+bullseyes m q o =
+    bullseye m q (o .tl .x) (o .tl .y) ++ bullseye m q (o .tr .x) (o .tr .y) ++ bullseye m q (o .br .x) (o .br .y)
+    ++ bullseye m q (o .bl .x) (o .bl .y)
 
 unfoldable pub squares : FrameSpec → List Square
 squares f = bullseyes (f64 (marker f)) (f64 (quietZone (f .cell))) (origins f)
@@ -53,7 +55,8 @@ unfoldable pub painted : List Square → ℕ → ℕ → Rgb → Rgb
 painted [] x y c = c
 painted (s ∷ l) x y c = painted l x y (cond (covers s x y) (s .colour) c)
 
--- the bytes of a picture once the squares are painted: the last that covers a pixel gives its colour, else it is what it was
+-- the bytes of a picture once the squares are painted: the last that covers a pixel gives its colour, else it is what
+-- it was
 unfoldable pub withSquares : List Square → Image → List ℕ
 withSquares l img = filled (byteOf (img .w) (λ x y. painted l x y (px img x y))) (3 * img .w * img .h) (img .bytes)
 

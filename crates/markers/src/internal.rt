@@ -8,7 +8,8 @@ use frame::Quad;
 ghost use mathlib.Core.Path.{_≡_};
 ghost use Prim.Native.Nat.{_≤_};
 ghost use Rattle.frame.specs.Limits.{FrameHeld};
-ghost use Rattle.markers.specs.Layout.{markerSize, quietZone, marginFor, marker, noLayout, origins, layoutOf, moved, markerCenters};
+ghost use Rattle.markers.specs.Layout.{markerSize, quietZone, marginFor, marker, noLayout, origins};
+ghost use Rattle.markers.specs.Layout.{layoutOf, moved, markerCenters};
 
 pub fn marker_size(cell: usize) -> usize
     requires { ⌜ cell ≤ 512 ⌝ }

@@ -15,7 +15,7 @@ ghost use Rattle.frame.specs.Refusals.{frameTests};
 ghost use Rattle.frame.specs.Answers.{numberFor, framedFor};
 ghost use Rattle.markers.specs.Layout.{markerSize, quietZone, marginFor, frameSpec, markerCenters};
 ghost use Rattle.markers.specs.Answers.{centersFor};
-ghost use Rattle.markers.specs.Doors.{cellTests, layoutTests, Stamping};
+ghost use Rattle.markers.specs.Contracts.{cellTests, layoutTests, Stamping};
 
 // The marker is 6 units on a side.
 pub const MARKER_UNITS: f64 = 6.0;

@@ -26,7 +26,8 @@ fn saturating_sub(a: usize, b: usize) -> usize
 
 pub fn fill(bytes: &mut [u8], w: usize, h: usize, x: f64, y: f64, width: f64, height: f64, c: Rgb)
     requires { ⌜ (w ≤ 4096) × (h ≤ 4096) × (length (now bytes) ≡ 3 * w * h) ⌝ }
-    ensures { λ _. ⌜ now (bytes .exit) ≡ withRect (image w h (now (bytes .entry))) (end x) (end y) (end (x ⊕ width) - end x) (end (y ⊕ height) - end y) c ⌝ }
+    ensures { λ _. ⌜ now (bytes .exit) ≡ withRect (image w h (now (bytes .entry))) (end x) (end y) (end (x ⊕ width)
+        - end x) (end (y ⊕ height) - end y) c ⌝ }
 {
     let x0 = end(x);
     let y0 = end(y);

@@ -55,7 +55,8 @@ module _ (luma : List Float) (w : ℕ) where
       ∙ sym (by-row (integralAt luma w) (w + 1) (x + 1) (y + 1) (omega arith))
 
   -- what is read above
-  pub above : (x y n : ℕ) (a l : List Float) → a ≡ filled (integralEntry luma w) n l → n ≤ length a → x < w → y * (w + 1) + (x + 1) < n → getD a (y * (w + 1) + (x + 1)) nan ≡ integralAt luma w (x + 1) y
+  pub above : (x y n : ℕ) (a l : List Float) → a ≡ filled (integralEntry luma w) n l → n ≤ length a → x < w → y * (w + 1) + (x + 1) < n
+      → getD a (y * (w + 1) + (x + 1)) nan ≡ integralAt luma w (x + 1) y
   above x y n a l e h b i =
       let k : length a ≡ length l = ap length e ∙ length-filled _ l n in
       ap (λ m. getD m (y * (w + 1) + (x + 1)) nan) e

@@ -18,7 +18,8 @@ entryAt a w x y = getD a (y * (w + 1) + x) nan
 abbrev pub Integral : List Float → ℕ → ℕ → List Float → Type 0
 Integral luma w h a = (k : ℕ) → k < (w + 1) * (h + 1) → getD a k nan ≡ integralEntry luma w k
 
--- what refusals 1, 2, 3 and 6 leave: frame and capture within their limits, and areas long enough. From a side of 32 on, 8 is at most a quarter of it.
+-- what refusals 1, 2, 3 and 6 leave: frame and capture within their limits, and areas long enough. From a side of 32
+-- on, 8 is at most a quarter of it.
 pub record Ready (img : Image) (f : FrameSpec) (luma integral : List Float) (mask : List ℕ) : Type 0 where
   pub frame : FrameHeld f
   pub capture : CaptureHeld img
@@ -29,7 +30,8 @@ pub record Ready (img : Image) (f : FrameSpec) (luma integral : List Float) (mas
   pub high : 32 ≤ img .h
 
 -- the three planes after: each starts with its entries, and the rest is as it was
-pub record Planes (img : Image) (f : FrameSpec) (luma integral : List Float) (mask : List ℕ) (luma' integral' : List Float) (mask' : List ℕ) : Type 0 where
+pub record Planes (img : Image) (f : FrameSpec) (luma integral : List Float) (mask : List ℕ) (luma' integral' : List
+    Float) (mask' : List ℕ) : Type 0 where
   pub luma-is : luma' ≡ filled (lumaAt img) (img .w * img .h) luma
   pub integral-is : integral' ≡ filled (integralEntry (lumaPlane img) (img .w)) ((img .w + 1) * (img .h + 1)) integral
   pub mask-is : mask' ≡ filled (maskEntry img f) (img .w * img .h) mask

@@ -29,8 +29,11 @@ fn first_row(integral: &mut [f64], n: usize)
 
 // Row y + 1 of the integral, above which it is done.
 fn integral_row(luma: &[f32], w: usize, h: usize, y: usize, integral: &mut [f64])
-    requires { ⌜ (w ≤ 4096) × (h ≤ 4096) × (y < h) × (length (now luma) ≡ w * h) × ((w + 1) * (h + 1) ≤ length (now integral)) ⌝ }
-    ensures { λ _. ⌜ ((l : List Float) → now (integral .entry) ≡ filled (integralEntry (now (luma .entry)) w) ((y + 1) * (w + 1)) l → now (integral .exit) ≡ filled (integralEntry (now (luma .entry)) w) ((y + 1 + 1) * (w + 1)) l) ⌝ }
+    requires { ⌜ (w ≤ 4096) × (h ≤ 4096) × (y < h) × (length (now luma) ≡ w * h)
+        × ((w + 1) * (h + 1) ≤ length (now integral)) ⌝ }
+    ensures { λ _. ⌜ ((l : List Float) → now (integral .entry) ≡ filled (integralEntry (now (luma .entry)) w)
+        ((y + 1) * (w + 1)) l → now (integral .exit) ≡ filled (integralEntry (now (luma .entry)) w) ((y + 1 + 1) *
+        (w + 1)) l) ⌝ }
 {
     let s = w + 1;
     let base = (y + 1) * s;
@@ -48,7 +51,8 @@ fn integral_row(luma: &[f32], w: usize, h: usize, y: usize, integral: &mut [f64]
 // The sum of the luma above and to the left of each corner of a pixel.
 fn integral_plane(luma: &[f32], w: usize, h: usize, integral: &mut [f64])
     requires { ⌜ (w ≤ 4096) × (h ≤ 4096) × (length (now luma) ≡ w * h) × ((w + 1) * (h + 1) ≤ length (now integral)) ⌝ }
-    ensures { λ _. ⌜ now (integral .exit) ≡ filled (integralEntry (now (luma .entry)) w) ((w + 1) * (h + 1)) (now (integral .entry)) ⌝ }
+    ensures { λ _. ⌜ now (integral .exit) ≡ filled (integralEntry (now (luma .entry)) w) ((w + 1) * (h + 1))
+        (now (integral .entry)) ⌝ }
 {
     first_row(integral, w + 1);
     for y in 0..h {
@@ -70,7 +74,8 @@ fn max(x: usize, y: usize) -> usize
 
 // The mean luma of the box around column x and row y, clipped at the picture.
 fn box_mean(integral: &[f64], w: usize, h: usize, radius: usize, x: usize, y: usize) -> f32
-    requires { ⌜ (w ≤ 4096) × (h ≤ 4096) × (radius ≤ 4096) × (x < w) × (y < h) × ((w + 1) * (h + 1) ≤ length (now integral)) ⌝ }
+    requires { ⌜ (w ≤ 4096) × (h ≤ 4096) × (radius ≤ 4096) × (x < w) × (y < h)
+        × ((w + 1) * (h + 1) ≤ length (now integral)) ⌝ }
     ensures { λ r. ⌜ r ≡ boxMean (entryAt (now (integral .entry)) w) w h radius x y ⌝ }
 {
     let s = w + 1;
@@ -88,7 +93,8 @@ fn box_mean(integral: &[f64], w: usize, h: usize, radius: usize, x: usize, y: us
 
 // 1 where the pixel is dark, else 0.
 fn dark(luma: &[f32], integral: &[f64], w: usize, h: usize, radius: usize, x: usize, y: usize) -> u8
-    requires { ⌜ (w ≤ 4096) × (h ≤ 4096) × (radius ≤ 4096) × (x < w) × (y < h) × (length (now luma) ≡ w * h) × ((w + 1) * (h + 1) ≤ length (now integral)) × Integral (now luma) w h (now integral) ⌝ }
+    requires { ⌜ (w ≤ 4096) × (h ≤ 4096) × (radius ≤ 4096) × (x < w) × (y < h) × (length (now luma) ≡ w * h)
+        × ((w + 1) * (h + 1) ≤ length (now integral)) × Integral (now luma) w h (now integral) ⌝ }
     ensures { λ r. ⌜ r ≡ cond (isDark (now (luma .entry)) w h radius x y) 1 0 ⌝ }
 {
     let i = y * w + x;
@@ -105,8 +111,11 @@ fn mask_row(
     y: usize,
     mask: &mut [u8],
 )
-    requires { ⌜ (w ≤ 4096) × (h ≤ 4096) × (radius ≤ 4096) × (y < h) × (length (now luma) ≡ w * h) × ((w + 1) * (h + 1) ≤ length (now integral)) × (w * h ≤ length (now mask)) × Integral (now luma) w h (now integral) ⌝ }
-    ensures { λ _. ⌜ ((l : List ℕ) → now (mask .entry) ≡ filled (darkEntry (now (luma .entry)) w h radius) (y * w) l → now (mask .exit) ≡ filled (darkEntry (now (luma .entry)) w h radius) ((y + 1) * w) l) ⌝ }
+    requires { ⌜ (w ≤ 4096) × (h ≤ 4096) × (radius ≤ 4096) × (y < h) × (length (now luma) ≡ w * h)
+        × ((w + 1) * (h + 1) ≤ length (now integral)) × (w * h ≤ length (now mask)) × Integral (now luma) w h
+        (now integral) ⌝ }
+    ensures { λ _. ⌜ ((l : List ℕ) → now (mask .entry) ≡ filled (darkEntry (now (luma .entry)) w h radius) (y * w) l
+        → now (mask .exit) ≡ filled (darkEntry (now (luma .entry)) w h radius) ((y + 1) * w) l) ⌝ }
 {
     for x in 0..w {
         let i = y * w + x;
@@ -123,8 +132,11 @@ fn adaptive_black_mask(
     radius: usize,
     mask: &mut [u8],
 )
-    requires { ⌜ (w ≤ 4096) × (h ≤ 4096) × (radius ≤ 4096) × (length (now luma) ≡ w * h) × ((w + 1) * (h + 1) ≤ length (now integral)) × (w * h ≤ length (now mask)) × Integral (now luma) w h (now integral) ⌝ }
-    ensures { λ _. ⌜ now (mask .exit) ≡ filled (darkEntry (now (luma .entry)) w h radius) (w * h) (now (mask .entry)) ⌝ }
+    requires { ⌜ (w ≤ 4096) × (h ≤ 4096) × (radius ≤ 4096) × (length (now luma) ≡ w * h)
+        × ((w + 1) * (h + 1) ≤ length (now integral)) × (w * h ≤ length (now mask)) × Integral (now luma) w h
+        (now integral) ⌝ }
+    ensures { λ _. ⌜ now (mask .exit) ≡ filled (darkEntry (now (luma .entry)) w h radius) (w * h)
+        (now (mask .entry)) ⌝ }
 {
     for y in 0..h {
         mask_row(luma, integral, w, h, radius, y, mask);
@@ -150,7 +162,8 @@ pub fn planes(
     mask: &mut [u8],
 )
     requires { ⌜ Ready (image w h (now capture)) frame (now luma) (now integral) (now mask) ⌝ }
-    ensures { λ _. ⌜ Planes (image w h (now (capture .entry))) frame (now (luma .entry)) (now (integral .entry)) (now (mask .entry)) (now (luma .exit)) (now (integral .exit)) (now (mask .exit)) ⌝ }
+    ensures { λ _. ⌜ Planes (image w h (now (capture .entry))) frame (now (luma .entry)) (now (integral .entry))
+        (now (mask .entry)) (now (luma .exit)) (now (integral .exit)) (now (mask .exit)) ⌝ }
 {
     let n = w * h;
     sampling::internal::luma_plane(capture, w, h, luma);

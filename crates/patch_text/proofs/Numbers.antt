@@ -133,7 +133,8 @@ pub written-none : (o : List ℕ) (at : ℕ) (f : ℕ → Blob) → Written o o 
 unfolding recordLines table
 written-none o at f = record { text = sym (append-none (take at o)); from = omega arith; to = omega arith }
 
-pub written-line : (o o₁ o₂ : List ℕ) (at r s j : ℕ) (f : ℕ → Blob) (b : Blob) → b ≡ f j → Written o o₁ at r (147 * j) (recordLines (table f j)) → Written o₁ o₂ r s 147 (recordLine b)
+pub written-line : (o o₁ o₂ : List ℕ) (at r s j : ℕ) (f : ℕ → Blob) (b : Blob) → b ≡ f j → Written o o₁ at r (147 * j) (recordLines
+    (table f j)) → Written o₁ o₂ r s 147 (recordLine b)
     → Written o o₂ at s (147 * (j + 1)) (recordLines (table f (j + 1)))
 written-line o o₁ o₂ at r s j f b e a c =
     let w = written-more o o₁ o₂ at r s (147 * j) 147 (recordLines (table f j)) (recordLine b) a c in
@@ -142,7 +143,8 @@ written-line o o₁ o₂ at r s j f b e a c =
     record { text = w .text ∙ ap (λ x. take at o ++ x) t; from = w .from; to = omega (arith, w .to) }
 
 -- ---- the whole list
-pub listed-text : (o o₁ o₂ o₃ o₄ : List ℕ) (e₀ e₁ e₂ r w h n : ℕ) (f : ℕ → Blob) → Written o o₁ 0 e₀ 21 (field w blank) → Written o₁ o₂ e₀ e₁ 21 (field h blank) → Written o₂ o₃ e₁ e₂ 21 (field n feed)
+pub listed-text : (o o₁ o₂ o₃ o₄ : List ℕ) (e₀ e₁ e₂ r w h n : ℕ) (f : ℕ → Blob) → Written o o₁ 0 e₀ 21 (field w blank)
+    → Written o₁ o₂ e₀ e₁ 21 (field h blank) → Written o₂ o₃ e₁ e₂ 21 (field n feed)
     → Written o₃ o₄ e₂ r (147 * n) (recordLines (table f n)) → take r o₄ ≡ patchText w h (table f n)
 unfolding patchText
 listed-text o o₁ o₂ o₃ o₄ e₀ e₁ e₂ r w h n f a b c d =

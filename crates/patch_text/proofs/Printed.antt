@@ -12,7 +12,9 @@ unfolding maskText table byRow byteAt letter
 reads7 = refl
 
 -- `3 3 3`, `1 0 0 0 0 0 0`, `1 2 0 2 0 2 0`, `3 2 5 0 1 1 2`
-pub prints7 : patchText 3 3 (table (patchAt list7) 3) ≡ 51 ∷ 32 ∷ 51 ∷ 32 ∷ 51 ∷ 10 ∷ 49 ∷ 32 ∷ 48 ∷ 32 ∷ 48 ∷ 32 ∷ 48 ∷ 32 ∷ 48 ∷ 32 ∷ 48 ∷ 32 ∷ 48 ∷ 10 ∷ 49 ∷ 32 ∷ 50 ∷ 32 ∷ 48 ∷ 32 ∷ 50 ∷ 32 ∷ 48 ∷ 32 ∷ 50 ∷ 32 ∷ 48 ∷ 10 ∷ 51 ∷ 32 ∷ 50 ∷ 32 ∷ 53 ∷ 32 ∷ 48 ∷ 32 ∷ 49 ∷ 32 ∷ 49 ∷ 32 ∷ 50 ∷ 10 ∷ []
+pub prints7 : patchText 3 3 (table (patchAt list7) 3) ≡ 51 ∷ 32 ∷ 51 ∷ 32 ∷ 51 ∷ 10 ∷ 49 ∷ 32 ∷ 48 ∷ 32 ∷ 48 ∷ 32 ∷ 48 ∷ 32 ∷ 48 ∷ 32 ∷ 48
+    ∷ 32 ∷ 48 ∷ 10 ∷ 49 ∷ 32 ∷ 50 ∷ 32 ∷ 48 ∷ 32 ∷ 50 ∷ 32 ∷ 48 ∷ 32 ∷ 50 ∷ 32 ∷ 48 ∷ 10 ∷ 51 ∷ 32 ∷ 50 ∷ 32 ∷ 53 ∷ 32 ∷ 48 ∷ 32 ∷ 49 ∷ 32
+    ∷ 49 ∷ 32 ∷ 50 ∷ 10 ∷ []
 unfolding patchText field decimal spelled recordLines recordLine table patchAt
 prints7 = refl
 

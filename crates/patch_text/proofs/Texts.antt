@@ -185,15 +185,18 @@ module _ {b : List ℕ} {w h : ℕ} {m : List ℕ} (r : Reads b w h m) where
       lacks e =
           let c : (length b - 1) % (w + 1) ≡ w - 1 = last (w - 1) (omega arith) (omega (arith, e, rows, r .wide)) in
           let o : (length b - 1) % (w + 1) ≡ w → ⊥ = λ g. omega (arith, r .wide) in
-          sym (pick-no (eqb (getD b (length b - 1) 0) feed) (length b) (length b + 1) (ne-eqb _ feed (λ g. letter-not-feed _ (sym (byte-letter w m (length b - 1) o) ∙ sym (at-byte (length b - 1) (omega (arith, some))) ∙ g)))) ∙ e
+          sym (pick-no (eqb (getD b (length b - 1) 0) feed) (length b) (length b + 1) (ne-eqb _ feed (λ g. letter-not-feed _
+          (sym (byte-letter w m (length b - 1) o) ∙ sym (at-byte (length b - 1) (omega (arith, some))) ∙ g)))) ∙ e
 
 -- ---- the mask that a text is
-module _ (b : List ℕ) (w h : ℕ) (wide : 1 ≤ w) (narrow : w ≤ 64) (high : 1 ≤ h) (low : h ≤ 64) (whole : closedLength b ≡ h * (w + 1)) (right : (k : ℕ) → k < length b → placedAt b w k ≡ true) where
+module _ (b : List ℕ) (w h : ℕ) (wide : 1 ≤ w) (narrow : w ≤ 64) (high : 1 ≤ h) (low : h ≤ 64) (whole : closedLength b
+    ≡ h * (w + 1)) (right : (k : ℕ) → k < length b → placedAt b w k ≡ true) where
   abbrev pixels : List ℕ
   pixels = table (pixelAt b w) (w * h)
 
   -- the text with its last line feed, c, agrees with b and has a line feed at its end
-  module _ (c : List ℕ) (long : length c ≡ h * (w + 1)) (same : (k : ℕ) → k < length b → getD c k 0 ≡ getD b k 0) (last : (k : ℕ) → length b ≤ k → k < length c → (getD c k 0 ≡ feed) × (k + 1 ≡ h * (w + 1))) where
+  module _ (c : List ℕ) (long : length c ≡ h * (w + 1)) (same : (k : ℕ) → k < length b → getD c k 0 ≡ getD b k 0) (last : (k : ℕ)
+      → length b ≤ k → k < length c → (getD c k 0 ≡ feed) × (k + 1 ≡ h * (w + 1))) where
     rows : h * (w + 1) ≡ (h - 1) * (w + 1) + (w + 1)
     rows = ap (λ x. x * (w + 1)) (omega arith) ∙ suc-mul (h - 1) (w + 1)
 
@@ -351,7 +354,8 @@ module _ (b : List ℕ) (r : ℕ) (f : FirstFeed b r) where
         let y : _≡_ {A = ℕ} 0 1 = cc in
         omega arith
 
-    pub lettered-mask : 1 ≤ r → r ≤ 64 → z % (r + 1) ≡ 0 → z / (r + 1) ≤ 64 → all (placedAt b r) (length b) ≡ true → Reads b r (z / (r + 1)) (table (pixelAt b r) (r * (z / (r + 1))))
+    pub lettered-mask : 1 ≤ r → r ≤ 64 → z % (r + 1) ≡ 0 → z / (r + 1) ≤ 64 → all (placedAt b r) (length b) ≡ true
+        → Reads b r (z / (r + 1)) (table (pixelAt b r) (r * (z / (r + 1))))
     lettered-mask a c d g t = reads-is b r (z / (r + 1)) a c high g (sym e ∙ whole) (λ k l. all-at (placedAt b r) (length b) k t l)
       where
         whole : z ≡ z / (r + 1) * (r + 1)

@@ -66,7 +66,8 @@ field n after = decimal n ++ (after ∷ [])
 -- "area, sum of x, sum of y, and box x0, y0, x1, y1"
 unfoldable pub recordLine : Blob → List ℕ
 recordLine b =
-    field (b .area) blank ++ field (b .sx) blank ++ field (b .sy) blank ++ field (b .x0) blank ++ field (b .y0) blank ++ field (b .x1) blank ++ field (b .y1) feed
+    field (b .area) blank ++ field (b .sx) blank ++ field (b .sy) blank ++ field (b .x0) blank ++ field (b .y0) blank
+    ++ field (b .x1) blank ++ field (b .y1) feed
 
 unfoldable pub recordLines : List Blob → List ℕ
 recordLines [] = []

@@ -3,7 +3,8 @@ ghost use mathlib.Core.Path.{_≡_};
 ghost use Prim.Native.Nat.{ℕ, _+_, _*_, _≤_, _<_};
 ghost use lib.ListN.{length};
 ghost use Rattle.base.specs.Loops.{filled};
-ghost use Rattle.patch_text.specs.Steps.{FirstFeed, closedLength, placed, placedAt, all, pixelOf, pixelAt, Measured};
+ghost use Rattle.patch_text.specs.Steps.{FirstFeed, closedLength, placed, placedAt, all, pixelOf};
+ghost use Rattle.patch_text.specs.Steps.{pixelAt, Measured};
 
 pub struct Size {
     pub w: usize,

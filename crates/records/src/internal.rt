@@ -27,8 +27,10 @@ pub fn fetch_patch(records: &[Blob], j: usize) -> Blob
 
 // Record i of the flat candidate lists, stored as record i of the slice.
 pub fn store_candidate(records: &mut [Candidate], candidates: &[f64], blob_index: &[u32], i: usize)
-    requires { ⌜ (i < length (now records)) × (4 * i + 3 < length (now candidates)) × (i < length (now «blob_index»)) ⌝ }
-    ensures { λ _. ⌜ now (records .exit) ≡ set (now (records .entry)) i (candidateAt (now (candidates .entry)) (now («blob_index» .entry)) i) ⌝ }
+    requires { ⌜ (i < length (now records)) × (4 * i + 3 < length (now candidates))
+        × (i < length (now «blob_index»)) ⌝ }
+    ensures { λ _. ⌜ now (records .exit) ≡ set (now (records .entry)) i (candidateAt (now (candidates .entry))
+        (now («blob_index» .entry)) i) ⌝ }
 {
     records[i] = candidates::internal::candidate_at(candidates, blob_index, i);
 }

@@ -14,7 +14,7 @@ use lib.Ieee.Fits.{down-pos, round-is}
 use lib.Ieee.Scale.{round-same}
 use Rattle.base.proofs.Floats.{held64}
 use Rattle.float.specs.Floats.{_⊖_, f64, d64, asUsize, clampOf}
-use Rattle.sampling.specs.Reading.{held, floorOf, spanOf}
+use Rattle.sampling.specs.Reading.{held, floorOf, neighboursOf}
 
 -- ---- n - 1 is exact
 
@@ -142,10 +142,10 @@ module _ (n : ℕ) (t : Float) (low : 1 ≤ n) (high : n ≤ 4096) where
   pub whole-in : asUsize (held n t) < n
   whole-in = omega (arith, held-in)
 
-  pub first-in : spanOf n t .first < n
-  unfolding spanOf
+  pub first-in : neighboursOf n t .first < n
+  unfolding neighboursOf
   first-in = omega (arith, first-is, held-in)
 
-  pub next-in : spanOf n t .next < n
-  unfolding spanOf
+  pub next-in : neighboursOf n t .next < n
+  unfolding neighboursOf
   next-in = omega (arith, first-is, held-in)

@@ -1,4 +1,5 @@
--- The answer of `bilinear`: document 01's number and value for each case, and the answer that its tests and value give. Assumes nothing.
+-- The answer of `bilinear`: document 01's number and value for each case, and the answer that its tests and value
+-- give. Assumes nothing.
 use Prim.Native.Nat.{ℕ, zero, suc}
 use mathlib.Core.List.{List}
 use Rattle.frame.specs.Image.{black}

@@ -9,7 +9,8 @@ use Rattle.frame.specs.Image.{Image, byteAt}
 -- "Luma is f32: 0.299·r + 0.587·g + 0.114·b, left to right"
 unfoldable pub lumaOf : ℕ → ℕ → ℕ → Float
 lumaOf r g b =
-    add binary32 (add binary32 (mul binary32 (d32 299 1000) (f32 r)) (mul binary32 (d32 587 1000) (f32 g))) (mul binary32 (d32 114 1000) (f32 b))
+    add binary32 (add binary32 (mul binary32 (d32 299 1000) (f32 r)) (mul binary32 (d32 587 1000) (f32 g)))
+    (mul binary32 (d32 114 1000) (f32 b))
 
 -- pixel i's luma, and the plane
 abbrev pub lumaAt : Image → ℕ → Float

@@ -6,7 +6,7 @@ use Rattle.float.specs.Floats.{_⊕_, _⊖_, _⊗_, f64, d64, asU8, asUsize, cl
 use Rattle.frame.specs.Image.{Image, px}
 use Rattle.frame.specs.declared.Point.{Point}
 use Rattle.frame.specs.declared.Rgb.{Rgb}
-use Rattle.sampling.specs.declared.Span.{Span}
+use Rattle.sampling.specs.declared.Neighbours.{Neighbours}
 
 -- ---- where: along a side, `part` of the way from the pixel `first` to the pixel `next`
 
@@ -21,8 +21,8 @@ floorOf (inf s) = inf s
 floorOf (fin false m e) = round binary64 false (m * up e / down e) 1
 floorOf (fin true m e) = round binary64 true ((m * up e + (down e - 1)) / down e) 1
 
-unfoldable pub spanOf : ℕ → Float → Span
-spanOf n t =
+unfoldable pub neighboursOf : ℕ → Float → Neighbours
+neighboursOf n t =
     let c = held n t in
     let first = asUsize (floorOf c) in
     record { first = first; next = min (first + 1) (n - 1); part = c ⊖ f64 first }
@@ -36,15 +36,19 @@ blended tx ty a b c d =
     let bot = f64 c ⊗ (f64 1 ⊖ tx) ⊕ f64 d ⊗ tx in
     asU8 (clampOf (f64 0) (f64 255) (top ⊗ (f64 1 ⊖ ty) ⊕ bot ⊗ ty))
 
-unfoldable pub colourAt : Image → Span → Span → Rgb
+unfoldable pub colourAt : Image → Neighbours → Neighbours → Rgb
 colourAt img across down =
     let a = px img (across .first) (down .first) in
     let b = px img (across .next) (down .first) in
     let c = px img (across .first) (down .next) in
     let d = px img (across .next) (down .next) in
     let blend = blended (across .part) (down .part) in
-    record { r = blend (a .r) (b .r) (c .r) (d .r); g = blend (a .g) (b .g) (c .g) (d .g); b = blend (a .b) (b .b) (c .b) (d .b) }
+    record {
+      r = blend (a .r) (b .r) (c .r) (d .r);
+      g = blend (a .g) (b .g) (c .g) (d .g);
+      b = blend (a .b) (b .b) (c .b) (d .b);
+    }
 
 -- `bilinear`: the colour at the point p
 unfoldable pub bilinear : Image → Point → Rgb
-bilinear img p = colourAt img (spanOf (img .w) (p .x)) (spanOf (img .h) (p .y))
+bilinear img p = colourAt img (neighboursOf (img .w) (p .x)) (neighboursOf (img .h) (p .y))

@@ -1,5 +1,5 @@
-// What the layers above call without the doors' tests.
-use crate::Span;
+// What the layers above call without the public functions' tests.
+use crate::Neighbours;
 use frame::Point;
 use frame::Rgb;
 ghost use mathlib.Core.Path.{_≡_};
@@ -10,12 +10,13 @@ ghost use Rattle.float.specs.Floats.{f64};
 ghost use Rattle.frame.specs.Image.{image};
 ghost use Rattle.frame.specs.Limits.{CaptureHeld};
 ghost use Rattle.sampling.specs.Luma.{lumaAt};
-ghost use Rattle.sampling.specs.Reading.{spanOf, blended, bilinear};
+ghost use Rattle.sampling.specs.Reading.{neighboursOf, blended, bilinear};
 
 // The luma of each pixel.
 pub fn luma_plane(capture: &[u8], w: usize, h: usize, luma: &mut [f32])
     requires { ⌜ CaptureHeld (image w h (now capture)) × (w * h ≤ length (now luma)) ⌝ }
-    ensures { λ _. ⌜ now (luma .exit) ≡ filled (lumaAt (image w h (now (capture .entry)))) (w * h) (now (luma .entry)) ⌝ }
+    ensures { λ _. ⌜ now (luma .exit) ≡ filled (lumaAt (image w h (now (capture .entry)))) (w * h)
+        (now (luma .entry)) ⌝ }
 {
     for i in 0..w * h {
         let at = 3 * i;
@@ -38,13 +39,13 @@ pub fn to_f64(n: usize) -> f64
 }
 
 // Where the coordinate t falls along a side of n pixels.
-fn span(n: usize, t: f64) -> Span
+fn neighbours(n: usize, t: f64) -> Neighbours
     requires { ⌜ (1 ≤ n) × (n ≤ 4096) ⌝ }
-    ensures { λ r. ⌜ r ≡ spanOf n t ⌝ }
+    ensures { λ r. ⌜ r ≡ neighboursOf n t ⌝ }
 {
     let c = float::clamp(t - 0.5, 0.0, to_f64(n) - 1.0);
     let first = float::to_usize(c);
-    Span {
+    Neighbours {
         first: first,
         next: min(first + 1, n - 1),
         part: c - to_f64(first),
@@ -64,8 +65,8 @@ pub fn reading(capture: &[u8], w: usize, h: usize, p: Point) -> Rgb
     requires { ⌜ CaptureHeld (image w h (now capture)) ⌝ }
     ensures { λ r. ⌜ r ≡ bilinear (image w h (now (capture .entry))) p ⌝ }
 {
-    let across = span(w, p.x);
-    let down = span(h, p.y);
+    let across = neighbours(w, p.x);
+    let down = neighbours(h, p.y);
     let a = view::internal::read(capture, w, h, across.first, down.first);
     let b = view::internal::read(capture, w, h, across.next, down.first);
     let c = view::internal::read(capture, w, h, across.first, down.next);

@@ -11,7 +11,7 @@ ghost use Rattle.sampling.specs.Answers.{colourFor};
 pub mod internal;
 
 // Where a reading is taken along a side: `part` of the way from pixel `first` to pixel `next`.
-struct Span {
+struct Neighbours {
     first: usize,
     next: usize,
     part: f64,
@@ -33,7 +33,8 @@ pub fn luma(r: u8, g: u8, b: u8) -> f32
 // The colour at (x, y), in coordinates that put a pixel's centre at a half, by weights of the four
 // pixels around it, truncated. A place outside the picture reads its edge.
 pub fn bilinear(capture: &[u8], w: usize, h: usize, x: f64, y: f64) -> Colour
-    ensures { λ r. ⌜ r ≡ colourFor (captureTests (image w h (now (capture .entry)))) (reading.bilinear (image w h (now (capture .entry))) (record { x = x; y = y })) ⌝ }
+    ensures { λ r. ⌜ r ≡ colourFor (captureTests (image w h (now (capture .entry)))) (reading.bilinear
+        (image w h (now (capture .entry))) (record { x = x; y = y })) ⌝ }
 {
     if frame::internal::capture_wrong(capture, w, h) {
         return Colour::Refused(2);

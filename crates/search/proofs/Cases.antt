@@ -89,7 +89,8 @@ module _ (img : Image) (f : FrameSpec) (q : Quad) (k : Float) (s : Fitted) (e : 
       go false e = ap (λ (z : Fitted). record { outcome = NoHomography; fit = z .fit }) e
 
 -- a stage takes a trial by its outcome; the fit counts only where there is a homography
-pub staged-trial : (img : Image) (f : FrameSpec) (q : Quad) (k : Float) (s : Stage) → staged (trialOf img f q k .outcome) (trialOf img f q k .fit) s ≡ staged (outcomeOf img f q k) (fitFor (img .w) (img .h) f q k) s
+pub staged-trial : (img : Image) (f : FrameSpec) (q : Quad) (k : Float) (s : Stage) → staged (trialOf img f q k .outcome) (trialOf img f q k
+    .fit) s ≡ staged (outcomeOf img f q k) (fitFor (img .w) (img .h) f q k) s
 unfolding trialOf outcomeOf
 staged-trial img f q k s = go (gradeOf img f (fitFor (img .w) (img .h) f q k)) (fitFor (img .w) (img .h) f q k) (fitsFor (img .w) (img .h) f q k)
   where
@@ -101,16 +102,16 @@ staged-trial img f q k s = go (gradeOf img f (fitFor (img .w) (img .h) f q k)) (
 
 -- ---- after an entry
 module _ (s : Search) (t : Stage) where
-  pub advanced-entry : s .entry + 1 < entries (s .number) → record { number = s .number; entry = s .entry + 1; centre = s .centre; stage = t; ended = false } ≡ advanced s t
+  pub advanced-entry : s .entry + 1 < entries (s .number) → record { number = s .number; entry = s .entry + 1; center = s .center; stage = t; ended = false } ≡ advanced s t
   unfolding advanced
   advanced-entry h = pick-yes _ _ _ (lt-ltb _ _ h)
 
   pub advanced-stage : entries (s .number) ≤ s .entry + 1 → keeps (t .kept) ≡ true → s .number < 2
-      → record { number = s .number + 1; entry = 0; centre = t .fit .radial .k; stage = begun (t .tried) (t .homographies); ended = false } ≡ advanced s t
+      → record { number = s .number + 1; entry = 0; center = t .fit .radial .k; stage = begun (t .tried) (t .homographies); ended = false } ≡ advanced s t
   unfolding advanced
   advanced-stage h k l = pick-yes _ _ _ (and-both _ _ k (lt-ltb _ _ l)) ∙ pick-no _ _ _ (le-ltb _ _ h)
 
   pub advanced-over : entries (s .number) ≤ s .entry + 1 → (keeps (t .kept) && ltb (s .number) 2) ≡ false
-      → record { number = s .number; entry = s .entry; centre = s .centre; stage = t; ended = true } ≡ advanced s t
+      → record { number = s .number; entry = s .entry; center = s .center; stage = t; ended = true } ≡ advanced s t
   unfolding advanced
   advanced-over h k = pick-no _ _ _ k ∙ pick-no _ _ _ (le-ltb _ _ h)

@@ -17,7 +17,8 @@ use Rattle.search.specs.declared.Stage.{Stage}
 use Rattle.base.specs.Loops.{turns}
 use Rattle.frame.specs.Image.{Image}
 use Rattle.fit.specs.Grid.{scoreOf, gradeOf}
-use Rattle.search.specs.Stages.{takes, stays, staged, replaces, more, asMuch, begun, stageFrom, entries, kAt, outcomeOf, BestTrial, nextStage, firstStage, secondStage, searched, lastCentre, onKept, keeps, Barren, BarrenStage}
+use Rattle.search.specs.Stages.{takes, stays, staged, replaces, more, asMuch, begun, stageFrom, entries, kAt, outcomeOf, BestTrial, nextStage, firstStage}
+use Rattle.search.specs.Stages.{secondStage, searched, lastCenter, onKept, keeps, Barren, BarrenStage}
 use Rattle.fit.specs.Fits.{fitFor, fitsFor}
 use Rattle.search.specs.Stages.BarrenStage.{first, second, third}
 use Rattle.fiducials.proofs.Order.{step-lt, lt-trans, lt-irrefl, lt-not-le, not-le-nan}
@@ -76,7 +77,8 @@ module _ (o : ℕ → Outcome) (t : ℕ → GeometryFit) where
   one-more n s (Graded b) e (none k f) =
       subst (λ z. Keeps o t (suc n) z) (sym (taken (s .kept) k))
       (some n b (omega arith) e refl refl
-      (λ i h. ⊎-elim (λ w. subst (λ y. T (not (more y (Graded b)))) (sym (ap o w ∙ e)) (self-more b)) (λ w. subst (λ y. T (not (more y (Graded b)))) (sym (f i w)) (no-more b)) (last-or i n h))
+      (λ i h. ⊎-elim (λ w. subst (λ y. T (not (more y (Graded b)))) (sym (ap o w ∙ e)) (self-more b)) (λ w. subst
+      (λ y. T (not (more y (Graded b)))) (sym (f i w)) (no-more b)) (last-or i n h))
       (λ i h. subst (λ y. T (not (asMuch y (Graded b)))) (sym (f i h)) (no-as-much b)))
     where
       taken : (y : Outcome) → y ≡ NoHomography → cond (replaces y b) (takes b (t n) s) (stays s) ≡ takes b (t n) s
@@ -124,38 +126,38 @@ graded img f q k g e = go (fitsFor (img .w) (img .h) f q k) e
     go true e = tt
     go false e = let z : _≡_ {A = ℕ} 0 1 = cc in absurd (omega arith)
 
-module _ (img : Image) (f : FrameSpec) (q : Quad) (j : ℕ) (centre : Float) (tried homographies : ℕ) where
+module _ (img : Image) (f : FrameSpec) (q : Quad) (j : ℕ) (center : Float) (tried homographies : ℕ) where
   -- the trial that a stage keeps is its best, and the first of the best
-  pub stage-best : (g : Grade) → stageFrom img f q j centre tried homographies .kept ≡ Graded g → BestTrial img f q j centre (stageFrom img f q j centre tried homographies .fit)
+  pub stage-best : (g : Grade) → stageFrom img f q j center tried homographies .kept ≡ Graded g → BestTrial img f q j center (stageFrom img f q j center tried homographies .fit)
   unfolding stageFrom
-  stage-best g e = go (kept-trial (λ i. outcomeOf img f q (kAt j centre i)) (λ i. fitFor (img .w) (img .h) f q (kAt j centre i)) (entries j) tried homographies)
+  stage-best g e = go (kept-trial (λ i. outcomeOf img f q (kAt j center i)) (λ i. fitFor (img .w) (img .h) f q (kAt j center i)) (entries j) tried homographies)
     where
-      go : Keeps (λ i. outcomeOf img f q (kAt j centre i)) (λ i. fitFor (img .w) (img .h) f q (kAt j centre i)) (entries j) (stageFrom img f q j centre tried homographies)
-          → BestTrial img f q j centre (stageFrom img f q j centre tried homographies .fit)
+      go : Keeps (λ i. outcomeOf img f q (kAt j center i)) (λ i. fitFor (img .w) (img .h) f q (kAt j center i)) (entries j) (stageFrom img f q j center tried homographies)
+          → BestTrial img f q j center (stageFrom img f q j center tried homographies .fit)
       go (none k h) = absurd (let z : _≡_ {A = ℕ} 0 1 = cc in omega arith)
       go (some a b l p k r m u) =
           record {
             entry = a;
             of-stage = l;
-            has-homography = graded img f q (kAt j centre a) b p;
+            has-homography = graded img f q (kAt j center a) b p;
             is = r;
-            none-more = λ i h. subst (λ z. T (not (more (outcomeOf img f q (kAt j centre i)) z))) (sym p) (m i h);
-            none-earlier = λ i h. subst (λ z. T (not (asMuch (outcomeOf img f q (kAt j centre i)) z))) (sym p) (u i h);
+            none-more = λ i h. subst (λ z. T (not (more (outcomeOf img f q (kAt j center i)) z))) (sym p) (m i h);
+            none-earlier = λ i h. subst (λ z. T (not (asMuch (outcomeOf img f q (kAt j center i)) z))) (sym p) (u i h);
           }
 
   -- a stage keeps none exactly when no trial of it has a homography
-  pub stage-none : stageFrom img f q j centre tried homographies .kept ≡ NoHomography → (i : ℕ) → i < entries j → outcomeOf img f q (kAt j centre i) ≡ NoHomography
+  pub stage-none : stageFrom img f q j center tried homographies .kept ≡ NoHomography → (i : ℕ) → i < entries j → outcomeOf img f q (kAt j center i) ≡ NoHomography
   unfolding stageFrom
-  stage-none e = go (kept-trial (λ i. outcomeOf img f q (kAt j centre i)) (λ i. fitFor (img .w) (img .h) f q (kAt j centre i)) (entries j) tried homographies)
+  stage-none e = go (kept-trial (λ i. outcomeOf img f q (kAt j center i)) (λ i. fitFor (img .w) (img .h) f q (kAt j center i)) (entries j) tried homographies)
     where
-      go : Keeps (λ i. outcomeOf img f q (kAt j centre i)) (λ i. fitFor (img .w) (img .h) f q (kAt j centre i)) (entries j) (stageFrom img f q j centre tried homographies)
-          → (i : ℕ) → i < entries j → outcomeOf img f q (kAt j centre i) ≡ NoHomography
+      go : Keeps (λ i. outcomeOf img f q (kAt j center i)) (λ i. fitFor (img .w) (img .h) f q (kAt j center i)) (entries j) (stageFrom img f q j center tried homographies)
+          → (i : ℕ) → i < entries j → outcomeOf img f q (kAt j center i) ≡ NoHomography
       go (none k h) = h
       go (some a b l p k r m u) = absurd (let z : _≡_ {A = ℕ} 0 1 = cc in omega arith)
 
 -- demand 3: the fit of a search that keeps one is the best trial of the last stage
-pub search-best : (img : Image) (f : FrameSpec) (q : Quad) (g : Grade) → searched img f q .kept ≡ Graded g → BestTrial img f q 2 (lastCentre img f q) (searched img f q .fit)
-unfolding searched nextStage lastCentre
+pub search-best : (img : Image) (f : FrameSpec) (q : Quad) (g : Grade) → searched img f q .kept ≡ Graded g → BestTrial img f q 2 (lastCenter img f q) (searched img f q .fit)
+unfolding searched nextStage lastCenter
 search-best img f q g e = go (secondStage img f q) (secondStage img f q .kept) refl e
   where
     go : (s : Stage) (o : Outcome) → s .kept ≡ o
@@ -188,9 +190,9 @@ module _ (o : ℕ → Outcome) (t : ℕ → GeometryFit) (tried homographies : �
       go s (Graded g) e = unfold staged in take (replaces (s .kept) g) g s e
 
 module _ (img : Image) (f : FrameSpec) (q : Quad) where
-  stage-tried : (j : ℕ) (centre : Float) (tried homographies : ℕ) → stageFrom img f q j centre tried homographies .tried ≡ tried + entries j
+  stage-tried : (j : ℕ) (center : Float) (tried homographies : ℕ) → stageFrom img f q j center tried homographies .tried ≡ tried + entries j
   unfolding stageFrom
-  stage-tried j centre tried homographies = counted (λ i. outcomeOf img f q (kAt j centre i)) (λ i. fitFor (img .w) (img .h) f q (kAt j centre i)) tried homographies (entries j)
+  stage-tried j center tried homographies = counted (λ i. outcomeOf img f q (kAt j center i)) (λ i. fitFor (img .w) (img .h) f q (kAt j center i)) tried homographies (entries j)
 
   -- a stage after one that kept a trial, and what it says of that one
   next-tried : (j : ℕ) (s : Stage) (g : Grade) → nextStage img f q j s .kept ≡ Graded g → (nextStage img f q j s .tried ≡ s .tried + entries j) × ((b : Grade) × (s .kept ≡ Graded b))
@@ -244,22 +246,23 @@ module _ (img : Image) (f : FrameSpec) (q : Quad) where
       go false e = tt
 
   -- one stage
-  stage-barren : (j : ℕ) (centre : Float) (tried homographies : ℕ) → stageFrom img f q j centre tried homographies .kept ≡ NoHomography → Barren img f q j centre
-  stage-barren j centre tried homographies e i h = without (kAt j centre i) (stage-none img f q j centre tried homographies e i h)
+  stage-barren : (j : ℕ) (center : Float) (tried homographies : ℕ) → stageFrom img f q j center tried homographies .kept ≡ NoHomography → Barren img f q j center
+  stage-barren j center tried homographies e i h = without (kAt j center i) (stage-none img f q j center tried homographies e i h)
 
-  barren-stage : (j : ℕ) (centre : Float) (tried homographies : ℕ) → Barren img f q j centre → T (not (keeps (stageFrom img f q j centre tried homographies .kept)))
-  barren-stage j centre tried homographies b =
-      not-T (keeps (stageFrom img f q j centre tried homographies .kept)) (λ t.
-      let g = some-grade (stageFrom img f q j centre tried homographies .kept) t in
-      let best = stage-best img f q j centre tried homographies (g .0) (g .1) in
-      T-not (fitsFor (img .w) (img .h) f q (kAt j centre (best .entry))) (b (best .entry) (best .of-stage)) (best .has-homography))
+  barren-stage : (j : ℕ) (center : Float) (tried homographies : ℕ) → Barren img f q j center → T (not (keeps (stageFrom img f q j center tried homographies .kept)))
+  barren-stage j center tried homographies b =
+      not-T (keeps (stageFrom img f q j center tried homographies .kept)) (λ t.
+      let g = some-grade (stageFrom img f q j center tried homographies .kept) t in
+      let best = stage-best img f q j center tried homographies (g .0) (g .1) in
+      T-not (fitsFor (img .w) (img .h) f q (kAt j center (best .entry))) (b (best .entry) (best .of-stage)) (best .has-homography))
 
   -- a later stage, after s
   next-barren : (j : ℕ) (s : Stage) → T (not (keeps (nextStage img f q j s .kept))) → T (not (keeps (s .kept))) ⊎ (T (keeps (s .kept)) × Barren img f q j (s .fit .radial .k))
   unfolding nextStage
   next-barren j s h = go (s .kept) h
     where
-      go : (o : Outcome) → T (not (keeps (onKept o s (stageFrom img f q j (s .fit .radial .k) (s .tried) (s .homographies)) .kept))) → T (not (keeps o)) ⊎ (T (keeps o) × Barren img f q j (s .fit .radial .k))
+      go : (o : Outcome) → T (not (keeps (onKept o s (stageFrom img f q j (s .fit .radial .k) (s .tried) (s .homographies)) .kept)))
+          → T (not (keeps o)) ⊎ (T (keeps o) × Barren img f q j (s .fit .radial .k))
       go NoHomography h = inl (keeps-none NoHomography refl)
       go (Graded g) h = inr (unfold keeps in tt, stage-barren j (s .fit .radial .k) (s .tried) (s .homographies) (no-grade _ h))
 
@@ -280,7 +283,7 @@ module _ (img : Image) (f : FrameSpec) (q : Quad) where
       go (Graded g) e n = let z : _≡_ {A = ℕ} 0 1 = cc in absurd (omega arith)
 
   pub search-barren : T (not (keeps (searched img f q .kept))) → BarrenStage img f q
-  unfolding searched secondStage firstStage lastCentre
+  unfolding searched secondStage firstStage lastCenter
   search-barren h = ⊎-elim
       (λ s. ⊎-elim
       (λ t. first (stage-barren 0 (f64 0) 0 0 (no-grade (firstStage img f q .kept) t)))
@@ -290,7 +293,7 @@ module _ (img : Image) (f : FrameSpec) (q : Quad) where
       (next-barren 2 (secondStage img f q) h)
 
   pub barren-search : BarrenStage img f q → T (not (keeps (searched img f q .kept)))
-  unfolding searched secondStage firstStage lastCentre
+  unfolding searched secondStage firstStage lastCenter
   barren-search (first b) = after-none 2 (secondStage img f q) (after-none 1 (firstStage img f q) (barren-stage 0 (f64 0) 0 0 b))
   barren-search (second k b) = after-none 2 (secondStage img f q) (barren-next 1 (firstStage img f q) b)
   barren-search (third k b) = barren-next 2 (secondStage img f q) b
@@ -321,8 +324,8 @@ module _ (o : ℕ → Outcome) (t : ℕ → GeometryFit) (tried homographies : �
       go s (Graded g) e = unfold staged mapped in take (replaces (s .kept) g) g s e
 
 -- "how many had a homography": a stage adds the trials of it that have one
-pub stage-mapped : (img : Image) (f : FrameSpec) (q : Quad) (j : ℕ) (centre : Float) (tried homographies : ℕ)
-    → stageFrom img f q j centre tried homographies .homographies ≡ homographies + mappedOf (λ i. outcomeOf img f q (kAt j centre i)) (entries j)
+pub stage-mapped : (img : Image) (f : FrameSpec) (q : Quad) (j : ℕ) (center : Float) (tried homographies : ℕ)
+    → stageFrom img f q j center tried homographies .homographies ≡ homographies + mappedOf (λ i. outcomeOf img f q (kAt j center i)) (entries j)
 unfolding stageFrom
-stage-mapped img f q j centre tried homographies =
-    mapped-counted (λ i. outcomeOf img f q (kAt j centre i)) (λ i. fitFor (img .w) (img .h) f q (kAt j centre i)) tried homographies (entries j)
+stage-mapped img f q j center tried homographies =
+    mapped-counted (λ i. outcomeOf img f q (kAt j center i)) (λ i. fitFor (img .w) (img .h) f q (kAt j center i)) tried homographies (entries j)

@@ -50,10 +50,10 @@ advanced-counts s t = go (ltb (s .entry + 1) (entries (s .number))) (keeps (t .k
     go : (a b : Bool)
         → (let r : Search =
         cond a
-        (record { number = s .number; entry = s .entry + 1; centre = s .centre; stage = t; ended = false })
+        (record { number = s .number; entry = s .entry + 1; center = s .center; stage = t; ended = false })
         (cond b
-        (record { number = s .number + 1; entry = 0; centre = t .fit .radial .k; stage = begun (t .tried) (t .homographies); ended = false })
-        (record { number = s .number; entry = s .entry; centre = s .centre; stage = t; ended = true })) in
+        (record { number = s .number + 1; entry = 0; center = t .fit .radial .k; stage = begun (t .tried) (t .homographies); ended = false })
+        (record { number = s .number; entry = s .entry; center = s .center; stage = t; ended = true })) in
         (r .stage .tried ≡ t .tried) × (r .stage .homographies ≡ t .homographies))
     go true b = (refl, refl)
     go false true = (refl, refl)
@@ -107,12 +107,12 @@ held-beginning = record { tried-in = omega arith; homographies-in = omega arith 
 
 module _ (img : Image) (f : FrameSpec) (q : Quad) where
   -- the search is within stage j around a centre, which began with the given counts
-  pub record Within (j : ℕ) (centre : Float) (tried homographies : ℕ) (s : Search) : Type 0 where
+  pub record Within (j : ℕ) (center : Float) (tried homographies : ℕ) (s : Search) : Type 0 where
     pub going : s .ended ≡ false
     pub numbered : s .number ≡ j
-    pub around : s .centre ≡ centre
+    pub around : s .center ≡ center
     pub entry-in : s .entry < entries j
-    pub so-far : s .stage ≡ turns (s .entry) (trialStep img f q j centre) (begun tried homographies)
+    pub so-far : s .stage ≡ turns (s .entry) (trialStep img f q j center) (begun tried homographies)
 
   -- where turns from the beginning come to
   pub data Reached (s : Search) : Type 0 where
@@ -126,70 +126,70 @@ module _ (img : Image) (f : FrameSpec) (q : Quad) where
   begins = in-first (record { going = refl; numbered = refl; around = refl; entry-in = omega (arith, stage-lengths .0); so-far = turns-begin _ _ })
 
   -- ---- one turn within a stage
-  data Turned (j : ℕ) (centre : Float) (tried homographies : ℕ) (s : Search) : Type 0 where
-    more : Within j centre tried homographies (turnOf img f q s) → turnOf img f q s .entry ≡ s .entry + 1 → Turned j centre tried homographies s
-    next : keeps (stageFrom img f q j centre tried homographies .kept) ≡ true → j < 2 → s .entry + 1 ≡ entries j
+  data Turned (j : ℕ) (center : Float) (tried homographies : ℕ) (s : Search) : Type 0 where
+    more : Within j center tried homographies (turnOf img f q s) → turnOf img f q s .entry ≡ s .entry + 1 → Turned j center tried homographies s
+    next : keeps (stageFrom img f q j center tried homographies .kept) ≡ true → j < 2 → s .entry + 1 ≡ entries j
         → turnOf img f q s
         ≡ record {
           number = j + 1;
           entry = 0;
-          centre = stageFrom img f q j centre tried homographies .fit .radial .k;
-          stage = begun (stageFrom img f q j centre tried homographies .tried) (stageFrom img f q j centre tried homographies .homographies);
+          center = stageFrom img f q j center tried homographies .fit .radial .k;
+          stage = begun (stageFrom img f q j center tried homographies .tried) (stageFrom img f q j center tried homographies .homographies);
           ended = false;
         }
-        → Turned j centre tried homographies s
-    last : (keeps (stageFrom img f q j centre tried homographies .kept) && ltb j 2) ≡ false
-        → turnOf img f q s .ended ≡ true → turnOf img f q s .stage ≡ stageFrom img f q j centre tried homographies → Turned j centre tried homographies s
+        → Turned j center tried homographies s
+    last : (keeps (stageFrom img f q j center tried homographies .kept) && ltb j 2) ≡ false
+        → turnOf img f q s .ended ≡ true → turnOf img f q s .stage ≡ stageFrom img f q j center tried homographies → Turned j center tried homographies s
 
-  module _ (j : ℕ) (centre : Float) (tried homographies : ℕ) (s : Search) (r : Within j centre tried homographies s) where
-    turn-is : turnOf img f q s ≡ advanced s (turns (s .entry + 1) (trialStep img f q j centre) (begun tried homographies))
+  module _ (j : ℕ) (center : Float) (tried homographies : ℕ) (s : Search) (r : Within j center tried homographies s) where
+    turn-is : turnOf img f q s ≡ advanced s (turns (s .entry + 1) (trialStep img f q j center) (begun tried homographies))
     unfolding turnOf
     turn-is =
         sym (pick-no _ _ _ (r .going))
-        ∙ ap (λ (z : ℕ). advanced s (trialStep img f q z (s .centre) (s .entry) (s .stage))) (r .numbered)
+        ∙ ap (λ (z : ℕ). advanced s (trialStep img f q z (s .center) (s .entry) (s .stage))) (r .numbered)
         ∙ ap (λ (z : Float). advanced s (trialStep img f q j z (s .entry) (s .stage))) (r .around)
-        ∙ ap (advanced s) (turns-step (trialStep img f q j centre) (begun tried homographies) (s .entry) (r .so-far))
+        ∙ ap (advanced s) (turns-step (trialStep img f q j center) (begun tried homographies) (s .entry) (r .so-far))
 
-    within-more : s .entry + 1 < entries j → Turned j centre tried homographies s
+    within-more : s .entry + 1 < entries j → Turned j center tried homographies s
     within-more h =
-        let t = turns (s .entry + 1) (trialStep img f q j centre) (begun tried homographies) in
-        let z : Search = record { number = s .number; entry = s .entry + 1; centre = s .centre; stage = t; ended = false } in
+        let t = turns (s .entry + 1) (trialStep img f q j center) (begun tried homographies) in
+        let z : Search = record { number = s .number; entry = s .entry + 1; center = s .center; stage = t; ended = false } in
         let e : z ≡ turnOf img f q s = advanced-entry s t (subst (λ n. s .entry + 1 < entries n) (sym (r .numbered)) h) ∙ sym turn-is in
-        let w : Within j centre tried homographies z = record { going = refl; numbered = r .numbered; around = r .around; entry-in = h; so-far = refl } in
-        more (subst (Within j centre tried homographies) e w) (sym (ap (λ (y : Search). y .entry) e))
+        let w : Within j center tried homographies z = record { going = refl; numbered = r .numbered; around = r .around; entry-in = h; so-far = refl } in
+        more (subst (Within j center tried homographies) e w) (sym (ap (λ (y : Search). y .entry) e))
 
-    turn-last : s .entry + 1 ≡ entries j → turnOf img f q s ≡ advanced s (stageFrom img f q j centre tried homographies)
+    turn-last : s .entry + 1 ≡ entries j → turnOf img f q s ≡ advanced s (stageFrom img f q j center tried homographies)
     unfolding stageFrom
-    turn-last h = turn-is ∙ ap (λ n. advanced s (turns n (trialStep img f q j centre) (begun tried homographies))) h
+    turn-last h = turn-is ∙ ap (λ n. advanced s (turns n (trialStep img f q j center) (begun tried homographies))) h
 
     at-last : s .entry + 1 ≡ entries j → entries (s .number) ≤ s .entry + 1
     at-last h = subst (λ n. entries n ≤ s .entry + 1) (sym (r .numbered)) (omega arith)
 
-    within-last : s .entry + 1 ≡ entries j → (b : Bool) → (keeps (stageFrom img f q j centre tried homographies .kept) && ltb j 2) ≡ b → Turned j centre tried homographies s
+    within-last : s .entry + 1 ≡ entries j → (b : Bool) → (keeps (stageFrom img f q j center tried homographies .kept) && ltb j 2) ≡ b → Turned j center tried homographies s
     within-last h false e =
-        let t = stageFrom img f q j centre tried homographies in
-        let z : Search = record { number = s .number; entry = s .entry; centre = s .centre; stage = t; ended = true } in
+        let t = stageFrom img f q j center tried homographies in
+        let z : Search = record { number = s .number; entry = s .entry; center = s .center; stage = t; ended = true } in
         let d : z ≡ turnOf img f q s =
         advanced-over s t (at-last h) (ap (λ n. keeps (t .kept) && ltb n 2) (r .numbered) ∙ e) ∙ sym (turn-last h) in
         last e (sym (ap (λ (y : Search). y .ended) d)) (sym (ap (λ (y : Search). y .stage) d))
     within-last h true e =
-        let t = stageFrom img f q j centre tried homographies in
+        let t = stageFrom img f q j center tried homographies in
         let k : keeps (t .kept) ≡ true = and-left (keeps (t .kept)) (ltb j 2) e in
         let l : j < 2 = ltb-true j 2 (and-right (keeps (t .kept)) (ltb j 2) e) in
-        let z : Search = record { number = s .number + 1; entry = 0; centre = t .fit .radial .k; stage = begun (t .tried) (t .homographies); ended = false } in
+        let z : Search = record { number = s .number + 1; entry = 0; center = t .fit .radial .k; stage = begun (t .tried) (t .homographies); ended = false } in
         let d : z ≡ turnOf img f q s =
         advanced-stage s t (at-last h) k (subst (λ n. n < 2) (sym (r .numbered)) l) ∙ sym (turn-last h) in
         next k l h
-        (sym d ∙ ap (λ (n : ℕ). record { number = n + 1; entry = 0; centre = t .fit .radial .k; stage = begun (t .tried) (t .homographies); ended = false }) (r .numbered))
+        (sym d ∙ ap (λ (n : ℕ). record { number = n + 1; entry = 0; center = t .fit .radial .k; stage = begun (t .tried) (t .homographies); ended = false }) (r .numbered))
 
-    turned : Turned j centre tried homographies s
+    turned : Turned j center tried homographies s
     turned =
         ⊎-elim
-        (λ h. within-last (omega (arith, r .entry-in)) (keeps (stageFrom img f q j centre tried homographies .kept) && ltb j 2) refl)
+        (λ h. within-last (omega (arith, r .entry-in)) (keeps (stageFrom img f q j center tried homographies .kept) && ltb j 2) refl)
         within-more
         (le-or-lt (entries j) (s .entry + 1))
 
-    left-less : j < 3 → Turned j centre tried homographies s → left (turnOf img f q s) < left s
+    left-less : j < 3 → Turned j center tried homographies s → left (turnOf img f q s) < left s
     left-less b (more w e) =
         let p : left s ≡ rest j - s .entry = left-going s j (r .going) (r .numbered) in
         let d : left (turnOf img f q s) ≡ rest j - turnOf img f q s .entry = left-going (turnOf img f q s) j (w .going) (w .numbered) in
@@ -218,7 +218,8 @@ module _ (img : Image) (f : FrameSpec) (q : Quad) where
   unfolding nextStage
   next-is j s k = go (s .kept) k
     where
-      go : (o : Outcome) → keeps o ≡ true → onKept o s (stageFrom img f q j (s .fit .radial .k) (s .tried) (s .homographies)) ≡ stageFrom img f q j (s .fit .radial .k) (s .tried) (s .homographies)
+      go : (o : Outcome) → keeps o ≡ true → onKept o s (stageFrom img f q j (s .fit .radial .k) (s .tried) (s .homographies))
+          ≡ stageFrom img f q j (s .fit .radial .k) (s .tried) (s .homographies)
       go NoHomography k = absurd (false-true (unfold keeps in k))
       go (Graded g) k = refl
 
@@ -239,7 +240,13 @@ module _ (img : Image) (f : FrameSpec) (q : Quad) where
       go false b h e = refl
 
   -- the first head of a stage
-  enters : (j : ℕ) (t : Stage) → 0 < entries j → Within j (t .fit .radial .k) (t .tried) (t .homographies) (record { number = j; entry = 0; centre = t .fit .radial .k; stage = begun (t .tried) (t .homographies); ended = false })
+  enters : (j : ℕ) (t : Stage) → 0 < entries j → Within j (t .fit .radial .k) (t .tried) (t .homographies) (record {
+    number = j;
+    entry = 0;
+    center = t .fit .radial .k;
+    stage = begun (t .tried) (t .homographies);
+    ended = false;
+  })
   enters j t h = record { going = refl; numbered = refl; around = refl; entry-in = h; so-far = turns-begin _ _ }
 
   searched-first : keeps (firstStage img f q .kept) ≡ false → firstStage img f q ≡ searched img f q
@@ -265,15 +272,24 @@ module _ (img : Image) (f : FrameSpec) (q : Quad) where
   unfolding searched
   searched-second n = sym (next-none 2 (secondStage img f q) n)
 
-  searched-third : keeps (secondStage img f q .kept) ≡ true → stageFrom img f q 2 (secondStage img f q .fit .radial .k) (secondStage img f q .tried) (secondStage img f q .homographies) ≡ searched img f q
+  searched-third : keeps (secondStage img f q .kept) ≡ true → stageFrom img f q 2 (secondStage img f q .fit .radial .k) (secondStage img f q
+      .tried) (secondStage img f q .homographies) ≡ searched img f q
   unfolding searched
   searched-third g = sym (next-is 2 (secondStage img f q) g)
 
-  after-second : (s : Search) → keeps (firstStage img f q .kept) ≡ true → Turned 1 (firstStage img f q .fit .radial .k) (firstStage img f q .tried) (firstStage img f q .homographies) s → Reached (turnOf img f q s)
+  after-second : (s : Search) → keeps (firstStage img f q .kept) ≡ true → Turned 1 (firstStage img f q .fit .radial .k) (firstStage img f q
+      .tried) (firstStage img f q .homographies) s → Reached (turnOf img f q s)
   after-second s g (more w e) = in-second g w
   after-second s g (next k l h d) =
-      let e : turnOf img f q s ≡ record { number = 2; entry = 0; centre = secondStage img f q .fit .radial .k; stage = begun (secondStage img f q .tried) (secondStage img f q .homographies); ended = false } =
-      d ∙ ap (λ (t : Stage). record { number = 2; entry = 0; centre = t .fit .radial .k; stage = begun (t .tried) (t .homographies); ended = false }) (second-is g) in
+      let e : turnOf img f q s ≡ record {
+        number = 2;
+        entry = 0;
+        center = secondStage img f q .fit .radial .k;
+        stage = begun (secondStage
+            img f q .tried) (secondStage img f q .homographies);
+        ended = false;
+      } =
+      d ∙ ap (λ (t : Stage). record { number = 2; entry = 0; center = t .fit .radial .k; stage = begun (t .tried) (t .homographies); ended = false }) (second-is g) in
       let w : keeps (secondStage img f q .kept) ≡ true = ap (λ (t : Stage). keeps (t .kept)) (sym (second-is g)) ∙ k in
       in-third w (subst (Within 2 _ _ _) (sym e) (enters 2 (secondStage img f q) (omega (arith, stage-lengths .2))))
   after-second s g (last k e d) =
@@ -281,7 +297,8 @@ module _ (img : Image) (f : FrameSpec) (q : Quad) where
       let n : keeps (secondStage img f q .kept) ≡ false = ap (λ (t : Stage). keeps (t .kept)) (sym (second-is g)) ∙ m in
       over e (d ∙ second-is g ∙ searched-second n)
 
-  after-third : (s : Search) → keeps (secondStage img f q .kept) ≡ true → Turned 2 (secondStage img f q .fit .radial .k) (secondStage img f q .tried) (secondStage img f q .homographies) s → Reached (turnOf img f q s)
+  after-third : (s : Search) → keeps (secondStage img f q .kept) ≡ true → Turned 2 (secondStage img f q .fit .radial .k) (secondStage img f
+      q .tried) (secondStage img f q .homographies) s → Reached (turnOf img f q s)
   after-third s g (more w e) = in-third g w
   after-third s g (next k l h d) = absurd (omega arith)
   after-third s g (last k e d) = over e (d ∙ searched-third g)
@@ -306,10 +323,10 @@ module _ (img : Image) (f : FrameSpec) (q : Quad) where
 
   pub turn-held : (s : Search) → Reached s → s .ended ≡ false → Held s → Held (turnOf img f q s)
   turn-held s r e h =
-      let t = trialStep img f q (s .number) (s .centre) (s .entry) (s .stage) in
+      let t = trialStep img f q (s .number) (s .center) (s .entry) (s .stage) in
       let is : turnOf img f q s ≡ advanced s t = unfold turnOf in sym (pick-no _ _ _ e) in
       let a = advanced-counts s t in
-      let b = staged-counts (outcomeOf img f q (kAt (s .number) (s .centre) (s .entry))) (fitFor (img .w) (img .h) f q (kAt (s .number) (s .centre) (s .entry))) (s .stage) in
+      let b = staged-counts (outcomeOf img f q (kAt (s .number) (s .center) (s .entry))) (fitFor (img .w) (img .h) f q (kAt (s .number) (s .center) (s .entry))) (s .stage) in
       let x : turnOf img f q s .stage .tried ≡ s .stage .tried + 1 = ap (λ (z : Search). z .stage .tried) is ∙ a .0 ∙ b .0 in
       let y : turnOf img f q s .stage .homographies ≡ t .homographies = ap (λ (z : Search). z .stage .homographies) is ∙ a .1 in
       record {

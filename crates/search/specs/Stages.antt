@@ -38,17 +38,19 @@ entries j = asUsize (roundOf (f64 2 ⊗ span j ⊘ step j)) + 1
 
 -- "k clamped to ±0.20": entry i of stage j around a centre
 unfoldable pub kAt : ℕ → Float → ℕ → Float
-kAt j centre i = clampOf (neg kMax) kMax (centre ⊖ span j ⊕ step j ⊗ f64 i)
+kAt j center i = clampOf (neg kMax) kMax (center ⊖ span j ⊕ step j ⊗ f64 i)
 
 -- ---- a trial
 
 -- "A trial without homography is skipped; otherwise its outcome wraps a grade": the outcome of the trial of k
 unfoldable pub outcomeOf : Image → FrameSpec → Quad → Float → Outcome
-outcomeOf img f q k = cond (fitsFor (img .w) (img .h) f q k) (Graded (gradeOf img f (fitFor (img .w) (img .h) f q k))) NoHomography
+outcomeOf img f q k =
+    cond (fitsFor (img .w) (img .h) f q k) (Graded (gradeOf img f (fitFor (img .w) (img .h) f q k))) NoHomography
 
 -- ---- a stage
 
--- "Each stage begins with none kept and keeps its first trial with a homography. A later trial of that stage replaces the kept one only by scoring more."
+-- "Each stage begins with none kept and keeps its first trial with a homography. A later trial of that stage replaces
+-- the kept one only by scoring more."
 unfoldable pub replaces : Outcome → Grade → Bool
 replaces NoHomography g = true
 replaces (Graded b) g = lt (scoreOf b) (scoreOf g)
@@ -67,14 +69,15 @@ staged (Graded g) t s = cond (replaces (s .kept) g) (takes g t s) (stays s)
 
 -- entry i of stage j around a centre
 abbrev pub trialStep : Image → FrameSpec → Quad → ℕ → Float → ℕ → Stage → Stage
-trialStep img f q j centre i s = staged (outcomeOf img f q (kAt j centre i)) (fitFor (img .w) (img .h) f q (kAt j centre i)) s
+trialStep img f q j center i s =
+    staged (outcomeOf img f q (kAt j center i)) (fitFor (img .w) (img .h) f q (kAt j center i)) s
 
 -- none kept, with the counts of the stages before
 abbrev pub begun : ℕ → ℕ → Stage
 begun tried homographies = record { kept = NoHomography; fit = noFit; tried = tried; homographies = homographies }
 
 unfoldable pub stageFrom : Image → FrameSpec → Quad → ℕ → Float → ℕ → ℕ → Stage
-stageFrom img f q j centre tried homographies = turns (entries j) (trialStep img f q j centre) (begun tried homographies)
+stageFrom img f q j center tried homographies = turns (entries j) (trialStep img f q j center) (begun tried homographies)
 
 -- a stage has kept a trial
 unfoldable pub keeps : Outcome → Bool
@@ -100,17 +103,18 @@ unfoldable pub searched : Image → FrameSpec → Quad → Stage
 searched img f q = nextStage img f q 2 (secondStage img f q)
 
 -- the centre of the last stage: "around the k kept before"
-unfoldable pub lastCentre : Image → FrameSpec → Quad → Float
-lastCentre img f q = secondStage img f q .fit .radial .k
+unfoldable pub lastCenter : Image → FrameSpec → Quad → Float
+lastCenter img f q = secondStage img f q .fit .radial .k
 
 -- "a stage in which no trial has" a homography
 abbrev pub Barren : Image → FrameSpec → Quad → ℕ → Float → Type 0
-Barren img f q j centre = (i : ℕ) → i < entries j → T (not (fitsFor (img .w) (img .h) f q (kAt j centre i)))
+Barren img f q j center = (i : ℕ) → i < entries j → T (not (fitsFor (img .w) (img .h) f q (kAt j center i)))
 
 pub data BarrenStage (img : Image) (f : FrameSpec) (q : Quad) : Type 0 where
   first : Barren img f q 0 (f64 0) → BarrenStage img f q
-  second : T (keeps (firstStage img f q .kept)) → Barren img f q 1 (firstStage img f q .fit .radial .k) → BarrenStage img f q
-  third : T (keeps (secondStage img f q .kept)) → Barren img f q 2 (lastCentre img f q) → BarrenStage img f q
+  second : T (keeps (firstStage img f q .kept)) → Barren img f q 1 (firstStage img f q .fit .radial .k)
+      → BarrenStage img f q
+  third : T (keeps (secondStage img f q .kept)) → Barren img f q 2 (lastCenter img f q) → BarrenStage img f q
 
 -- ---- the kept trial of a stage, by meaning
 
@@ -125,11 +129,14 @@ asMuch NoHomography b = false
 asMuch (Graded a) NoHomography = false
 asMuch (Graded a) (Graded b) = le (scoreOf b) (scoreOf a)
 
--- "The reported fit is a trial of the last lens stage ... No other trial of that stage scores more, and no earlier one as much."
-pub record BestTrial (img : Image) (f : FrameSpec) (q : Quad) (j : ℕ) (centre : Float) (fit : GeometryFit) : Type 0 where
+-- "The reported fit is a trial of the last lens stage ... No other trial of that stage scores more, and no earlier
+-- one as much."
+pub record BestTrial (img : Image) (f : FrameSpec) (q : Quad) (j : ℕ) (center : Float) (fit : GeometryFit) : Type 0 where
   pub entry : ℕ
   pub of-stage : entry < entries j
-  pub has-homography : T (fitsFor (img .w) (img .h) f q (kAt j centre entry))
-  pub is : fit ≡ fitFor (img .w) (img .h) f q (kAt j centre entry)
-  pub none-more : (i : ℕ) → i < entries j → T (not (more (outcomeOf img f q (kAt j centre i)) (outcomeOf img f q (kAt j centre entry))))
-  pub none-earlier : (i : ℕ) → i < entry → T (not (asMuch (outcomeOf img f q (kAt j centre i)) (outcomeOf img f q (kAt j centre entry))))
+  pub has-homography : T (fitsFor (img .w) (img .h) f q (kAt j center entry))
+  pub is : fit ≡ fitFor (img .w) (img .h) f q (kAt j center entry)
+  pub none-more : (i : ℕ) → i < entries j
+      → T (not (more (outcomeOf img f q (kAt j center i)) (outcomeOf img f q (kAt j center entry))))
+  pub none-earlier : (i : ℕ) → i < entry → T (not (asMuch (outcomeOf img f q (kAt j center i)) (outcomeOf img f q
+      (kAt j center entry))))

@@ -1,4 +1,5 @@
--- The lens search a trial at a time: a state, and one turn of it. proofs/Turning shows that turns from the beginning come to `searched`. Assumes nothing.
+-- The lens search a trial at a time: a state, and one turn of it. proofs/Turning shows that turns from the beginning
+-- come to `searched`. Assumes nothing.
 use Prim.Native.Nat.{_+_, _<_}
 use mathlib.Core.Bool.{true, false, cond, _&&_}
 use lib.Dec.{ltb}
@@ -19,25 +20,34 @@ use Rattle.search.specs.declared.Search.{Search}
 unfoldable pub trialOf : Image → FrameSpec → Quad → Float → Trial
 trialOf img f q k =
     let t = fitFor (img .w) (img .h) f q k in
-    cond (fitsFor (img .w) (img .h) f q k) (record { outcome = Graded (gradeOf img f t); fit = t }) (record { outcome = NoHomography; fit = noFit })
+    cond (fitsFor (img .w) (img .h) f q k) (record {
+      outcome = Graded (gradeOf img f t);
+      fit = t;
+    }) (record { outcome = NoHomography; fit = noFit })
 
 -- before the first trial
 unfoldable pub beginning : Search
-beginning = record { number = 0; entry = 0; centre = f64 0; stage = begun 0 0; ended = false }
+beginning = record { number = 0; entry = 0; center = f64 0; stage = begun 0 0; ended = false }
 
--- s after an entry that left its stage as t: the next entry; after the last one the next stage, around the k kept; the end after the third stage, and
--- after one that keeps none
+-- s after an entry that left its stage as t: the next entry; after the last one the next stage, around the k kept;
+-- the end after the third stage, and after one that keeps none
 unfoldable pub advanced : Search → Stage → Search
 advanced s t =
     cond (ltb (s .entry + 1) (entries (s .number)))
-    (record { number = s .number; entry = s .entry + 1; centre = s .centre; stage = t; ended = false })
+    (record { number = s .number; entry = s .entry + 1; center = s .center; stage = t; ended = false })
     (cond (keeps (t .kept) && ltb (s .number) 2)
-    (record { number = s .number + 1; entry = 0; centre = t .fit .radial .k; stage = begun (t .tried) (t .homographies); ended = false })
-    (record { number = s .number; entry = s .entry; centre = s .centre; stage = t; ended = true }))
+    (record {
+      number = s .number + 1;
+      entry = 0;
+      center = t .fit .radial .k;
+      stage = begun (t .tried) (t .homographies);
+      ended = false;
+    })
+    (record { number = s .number; entry = s .entry; center = s .center; stage = t; ended = true }))
 
 -- one trial; nothing once the search has ended
 unfoldable pub turnOf : Image → FrameSpec → Quad → Search → Search
-turnOf img f q s = cond (s .ended) s (advanced s (trialStep img f q (s .number) (s .centre) (s .entry) (s .stage)))
+turnOf img f q s = cond (s .ended) s (advanced s (trialStep img f q (s .number) (s .center) (s .entry) (s .stage)))
 
 -- what a turn requires of a state, so that its counts do not wrap
 pub record Counting (s : Search) : Type 0 where

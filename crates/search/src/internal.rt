@@ -13,7 +13,7 @@ ghost use mathlib.Core.Path.{_≡_};
 ghost use lib.ListN.{length};
 ghost use Rattle.frame.specs.Image.{image};
 ghost use Rattle.frame.specs.Limits.{FrameHeld, CaptureHeld};
-ghost use Rattle.fit.specs.Doors.{sampledCells};
+ghost use Rattle.fit.specs.Contracts.{sampledCells};
 ghost use Rattle.search.specs.Stages as spec;
 ghost use Rattle.search.specs.Turn as state;
 
@@ -56,7 +56,7 @@ pub fn begin() -> Search
     Search {
         number: 0,
         entry: 0,
-        centre: 0.0,
+        center: 0.0,
         stage: stage,
         ended: false,
     }
@@ -72,14 +72,15 @@ pub fn turn(
     search: Search,
     means: &mut [f64],
 ) -> Search
-    requires { ⌜ CaptureHeld (image w h (now capture)) × FrameHeld frame × state.Counting search × (length (now means) ≡ sampledCells frame) ⌝ }
+    requires { ⌜ CaptureHeld (image w h (now capture)) × FrameHeld frame × state.Counting search
+        × (length (now means) ≡ sampledCells frame) ⌝ }
     ensures { λ r. ⌜ r ≡ state.turnOf (image w h (now (capture .entry))) frame quad search ⌝ }
 {
     if search.ended {
         return search;
     }
     let stage = search.stage;
-    let k = stages::k_at(search.number, search.centre, search.entry);
+    let k = stages::k_at(search.number, search.center, search.entry);
     let t = trial(capture, w, h, frame, quad, k, means);
     let outcome = t.outcome;
     let fit = t.fit;

@@ -36,7 +36,7 @@ pub struct Stage {
 pub struct Search {
     pub number: usize,
     pub entry: usize,
-    pub centre: f64,
+    pub center: f64,
     pub stage: Stage,
     pub ended: bool,
 }

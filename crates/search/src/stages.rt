@@ -105,11 +105,11 @@ fn entries(number: usize) -> usize
 }
 
 // The lens term of an entry.
-pub fn k_at(number: usize, centre: f64, entry: usize) -> f64
+pub fn k_at(number: usize, center: f64, entry: usize) -> f64
     requires { ⌜ entry < 41 ⌝ }
-    ensures { λ r. ⌜ r ≡ spec.kAt number centre entry ⌝ }
+    ensures { λ r. ⌜ r ≡ spec.kAt number center entry ⌝ }
 {
-    let k = centre - span(number) + step(number) * (entry as f64);
+    let k = center - span(number) + step(number) * (entry as f64);
     float::clamp(k, -crate::K_MAX, crate::K_MAX)
 }
 
@@ -144,12 +144,12 @@ pub fn advance(s: Search, t: Stage) -> Search
 {
     let number = s.number;
     let entry = s.entry;
-    let centre = s.centre;
+    let center = s.center;
     if entry + 1 < entries(number) {
         return Search {
             number: number,
             entry: entry + 1,
-            centre: centre,
+            center: center,
             stage: t,
             ended: false,
         };
@@ -163,7 +163,7 @@ pub fn advance(s: Search, t: Stage) -> Search
             return Search {
                 number: number + 1,
                 entry: 0,
-                centre: lens.k,
+                center: lens.k,
                 stage: next,
                 ended: false,
             };
@@ -172,7 +172,7 @@ pub fn advance(s: Search, t: Stage) -> Search
     Search {
         number: number,
         entry: entry,
-        centre: centre,
+        center: center,
         stage: t,
         ended: true,
     }

@@ -1,4 +1,4 @@
--- The doors' promises, over the number that a call gives in place of the door's answer. Assumes nothing.
+-- The public functions' promises, over the number that a call gives in place of the public function's answer. Assumes nothing.
 use mathlib.Core.Path.{_≡_, refl, ap, _∙_}
 use mathlib.Core.List.{List}
 use Prim.Native.Nat.{ℕ, zero, suc}
@@ -8,10 +8,10 @@ use Rattle.frame.specs.Refusals.{verdictOf, numberOf}
 use Rattle.frame.specs.declared.FrameSpec.{FrameSpec}
 use Rattle.frame.specs.declared.Verdict.{Verdict}
 use Rattle.frame.proofs.Given.{verdict-number}
-use Rattle.markers.specs.Doors.{Stamping}
-use Rattle.blobs.specs.Doors.{Labelling}
+use Rattle.markers.specs.Contracts.{Stamping}
+use Rattle.blobs.specs.Contracts.{Labelling}
 use native.Mathlib.Omega.{arith}
-use Rattle.fit.specs.Doors.{Scoring, scoreNumber, scoredAs, fittedAs}
+use Rattle.fit.specs.Contracts.{Scoring, scoreNumber, scoredAs, fittedAs}
 use Rattle.fit.specs.Fits.{unfitted}
 use Rattle.fit.specs.Grid.{gradeOf}
 use Rattle.fit.specs.declared.GeometryFit.{GeometryFit}
@@ -19,11 +19,11 @@ use Rattle.fit.specs.declared.Grade.{Grade}
 use Rattle.fit.specs.declared.GridScore.{GridScore}
 use Rattle.fit.specs.declared.GridScore.the-variants as G
 use Rattle.candidates.specs.Areas.{Areas}
-use Rattle.candidates.specs.Doors.{Listing}
-use Rattle.fiducials.specs.Doors.{Detection}
+use Rattle.candidates.specs.Contracts.{Listing}
+use Rattle.fiducials.specs.Contracts.{Detection}
 use Rattle.frame.specs.declared.Quad.{Quad}
 use Rattle.fiducials.specs.declared.Places.{Places}
-use Rattle.geometry.specs.Doors.{Warping}
+use Rattle.geometry.specs.Contracts.{Warping}
 use Rattle.geometry.specs.Warp.{warped}
 use Rattle.tablet.specs.Layouts.{fitOf}
 
@@ -38,7 +38,8 @@ verdict-is v n r g e = ap verdictOf (number-is v n r g e)
 pub stamping : (img : Image) (f : FrameSpec) (v : Verdict) (out : List ℕ) (r : ℕ) → r ≡ numberOf v → Stamping img f v out → Stamping img f (verdictOf r) out
 stamping img f v out r e s = record { given = verdict-is v _ r (s .given) e; accepted = s .accepted; refused = s .refused }
 
-pub warping : (img : Image) (f : FrameSpec) (fit : List Float) (t : GeometryFit) (c c′ : List ℕ) (v : Verdict) (r : ℕ) → t ≡ fitOf fit → r ≡ numberOf v → Warping img f t c c′ v → Warping img f (fitOf fit) c c′ (verdictOf r)
+pub warping : (img : Image) (f : FrameSpec) (fit : List Float) (t : GeometryFit) (c c′ : List ℕ) (v : Verdict) (r : ℕ) → t ≡ fitOf fit → r
+    ≡ numberOf v → Warping img f t c c′ v → Warping img f (fitOf fit) c c′ (verdictOf r)
 warping img f fit t c c′ v r p e s =
     record {
       given = verdict-is v _ r (s .given) e;
@@ -46,7 +47,8 @@ warping img f fit t c c′ v r p e s =
       refused = s .refused;
     }
 
-pub labelling : (m : List ℕ) (w h : ℕ) (s k l s′ k′ l′ : List ℕ) (v : Verdict) (n most r : ℕ) → r ≡ numberOf v → Labelling m w h s k l s′ k′ l′ v n most → Labelling m w h s k l s′ k′ l′ (verdictOf r) n most
+pub labelling : (m : List ℕ) (w h : ℕ) (s k l s′ k′ l′ : List ℕ) (v : Verdict) (n most r : ℕ) → r ≡ numberOf v → Labelling m w h s k l s′ k′
+    l′ v n most → Labelling m w h s k l s′ k′ l′ (verdictOf r) n most
 labelling m w h s k l s′ k′ l′ v n most r e d =
     record { given = verdict-is v _ r (d .given) e; accepted = d .accepted; untouched = d .untouched }
 
@@ -62,7 +64,9 @@ unfolding scoredAs
 scored-grade zero d g e = cc
 scored-grade (suc n) d g e = cc
 
-pub scoring : (img : Image) (f : FrameSpec) (fit : List Float) (t : GeometryFit) (means means′ : List Float) (a : GridScore) (r : ℕ) → t ≡ fitOf fit → r ≡ scoreNumber a → Scoring img f t means means′ a → Scoring img f (fitOf fit) means means′ (scoredAs r (gradeOf img f (fitOf fit)))
+pub scoring : (img : Image) (f : FrameSpec) (fit : List Float) (t : GeometryFit) (means means′ : List Float) (a : GridScore) (r : ℕ) → t
+    ≡ fitOf fit → r ≡ scoreNumber a → Scoring img f t means means′ a → Scoring img f (fitOf fit) means means′ (scoredAs r (gradeOf img f
+    (fitOf fit)))
 scoring img f fit t means means′ a r p e s =
     record {
       given = ap (λ n. scoredAs n (gradeOf img f (fitOf fit))) (e ∙ ap scoreNumber (s .given) ∙ score-number _ _);
@@ -86,12 +90,13 @@ pub fitted-fit : (n : ℕ) (t : GeometryFit) → n ≡ 0 → fittedAs n t .fit �
 unfolding fittedAs
 fitted-fit n t e = rw e
 
--- ---- the doors with all work areas
+-- ---- the public functions with all work areas
 
 pub listing : (img : Image) (f : FrameSpec) (a b : Areas) (v : Verdict) (n k deep r : ℕ) → r ≡ numberOf v → Listing img f a b v n k deep → Listing img f a b (verdictOf r) n k deep
 listing img f a b v n k deep r e d = record { given = verdict-is v _ r (d .given) e; accepted = d .accepted; refused = d .refused }
 
-pub detection : (img : Image) (f : FrameSpec) (a b : Areas) (v : Verdict) (n k deep : ℕ) (s : Places) (q : Quad) (r : ℕ) → r ≡ numberOf v → Detection img f a b v n k deep s q → Detection img f a b (verdictOf r) n k deep s q
+pub detection : (img : Image) (f : FrameSpec) (a b : Areas) (v : Verdict) (n k deep : ℕ) (s : Places) (q : Quad) (r : ℕ) → r ≡ numberOf v
+    → Detection img f a b v n k deep s q → Detection img f a b (verdictOf r) n k deep s q
 detection img f a b v n k deep s q r e d =
     record {
       number = d .number;
@@ -101,6 +106,6 @@ detection img f a b v n k deep s q r e d =
       refused = d .refused;
       accepted = d .accepted;
       corners = d .corners;
-      centres = d .centres;
+      centers = d .centers;
       none = d .none;
     }

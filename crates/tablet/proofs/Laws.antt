@@ -52,7 +52,7 @@ unfolding answered
 answered-refused {n = zero} v l h = absurd (h refl)
 answered-refused {n = suc n} v l h = refl
 
--- ---- the tests p of a door, with others q behind them
+-- ---- the tests p of a public function, with others q behind them
 
 module _ (q : List Check) where
   before-step : (b : Bool) (m k n : ℕ) (p : List Check) → (n ≡ k → n ≡ lowestOf (p ++ q)) → n ≡ cond b m k → n ≡ cond b m (lowestOf (p ++ q))
@@ -75,7 +75,7 @@ module _ (q : List Check) where
       let x : lo < c .number = r .0 in
       past-step (c .holds) (c .number) (lowestOf p) (lowestOf (p ++ q)) (omega arith) (lowest-past (c .number) p (r .1)) e
 
--- a call that its door refuses
+-- a call that its public function refuses
 pub refused-before : {A : Type 0} (p q : List Check) (v l : List A) (n : ℕ) → n ≡ lowestOf p → (n ≡ 0 → ⊥) → Answer (p ++ q) v l n l
 refused-before p q v l n e h = record { number = lowest-before q p n e h; result = answered-refused v l h }
 
@@ -96,7 +96,7 @@ module _ (n : ℕ) (s : Bool) (q : List Check) where
 pub numbered : {A : Type 0} (tests : List Check) (v l : List A) (n : ℕ) → n ≡ lowestOf tests → (n ≡ 0 → ⊥) → Answer tests v l n l
 numbered tests v l n e h = record { number = e; result = answered-refused v l h }
 
--- ---- over a door with work areas
+-- ---- over a public function with work areas
 
 module _ {s : Bool} {before : List Check} {r : ℕ} {Same Done : Type 0} where
   pub over-short : s ≡ true → r ≡ lowestOf before → Same → Over s before r Same Done

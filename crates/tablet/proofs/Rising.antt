@@ -7,8 +7,9 @@ use Rattle.frame.specs.Image.{Image}
 use Rattle.frame.specs.Refusals.{frameTests, sideTests, captureTests}
 use Rattle.frame.specs.declared.FrameSpec.{FrameSpec}
 use Rattle.frame.proofs.Lowest.{Rising}
-use Rattle.markers.specs.Doors.{cellTests}
-use Rattle.tablet.specs.Tests.{productTests, moveTests, inverseTests, pointsTests, errorTests, lensTests, colourTests, markerTests, cellsTests, centerTests, lengthTests, fitTests, captureFirst, maskFirst}
+use Rattle.markers.specs.Contracts.{cellTests}
+use Rattle.tablet.specs.Tests.{productTests, moveTests, inverseTests, pointsTests, errorTests, lensTests, colourTests, markerTests, cellsTests, centerTests}
+use Rattle.tablet.specs.Tests.{lengthTests, fitTests, captureFirst, maskFirst}
 
 module _ (a b d : List Float) where
   pub product-rising : Rising 0 (productTests a b d)

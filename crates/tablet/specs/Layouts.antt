@@ -4,7 +4,7 @@ use Prim.Native.Nat.{ℕ, _*_}
 use lib.ListN.{getD, take}
 use lib.Ieee.{Float, nan}
 use Rattle.candidates.specs.Areas.{smallest}
-use Rattle.fit.specs.Doors.{sampledCells}
+use Rattle.fit.specs.Contracts.{sampledCells}
 use Rattle.frame.specs.declared.FrameSpec.{FrameSpec}
 use Rattle.frame.specs.declared.Point.{Point}
 use Rattle.frame.specs.declared.Quad.{Quad}

@@ -15,7 +15,8 @@ short l n = ltb (length l) n
 unfoldable pub written : {A : Type 0} → List A → List A → List A
 written v l = v ++ drop (length v) l
 
--- a result slice l after a call with the number n: the numbers v where it is accepted, and as it was where it is refused
+-- a result slice l after a call with the number n: the numbers v where it is accepted, and as it was where it is
+-- refused
 unfoldable pub answered : {A : Type 0} → ℕ → List A → List A → List A
 answered zero v l = written v l
 answered (suc n) v l = l
@@ -25,8 +26,9 @@ pub record Answer {A : Type 0} (tests : List Check) (v l : List A) (r : ℕ) (l�
   pub number : r ≡ lowestOf tests
   pub result : l′ ≡ answered r v l
 
--- a call with the number r over a door with work areas: where a slice of numbers is too short (s), the number is the lowest of those before 3 and of 3, and
--- all is as it was (Same); else it is as the door promises (Done)
+-- a call with the number r over a public function with work areas: where a slice of numbers is too short (s), the
+-- number is the lowest of those before 3 and of 3, and all is as it was (Same); else it is as the public function
+-- promises (Done)
 pub record Over (s : Bool) (before : List Check) (r : ℕ) (Same Done : Type 0) : Type 0 where
   pub number : s ≡ true → r ≡ lowestOf before
   pub same : s ≡ true → Same

@@ -1,13 +1,14 @@
--- The tests of each function that answers numbers: what is too short, and the door's own. Assumes nothing.
+-- The tests of each function that answers numbers: what is too short, and the public function's own. Assumes nothing.
 use mathlib.Core.Bool.{true, not, _||_}
 use mathlib.Core.List.{List, [], _∷_, _++_}
 use Prim.Native.Nat.{ℕ, _*_}
 use lib.Dec.{eqb}
 use lib.Ieee.{Float}
 use Rattle.frame.specs.Image.{Image}
-use Rattle.frame.specs.Refusals.{Check, check, sidesWrong, frameOutside, captureWrong, frameTests, sideTests, captureTests}
+use Rattle.frame.specs.Refusals.{Check, check, sidesWrong, frameOutside, captureWrong, frameTests, sideTests}
+use Rattle.frame.specs.Refusals.{captureTests}
 use Rattle.frame.specs.declared.FrameSpec.{FrameSpec}
-use Rattle.markers.specs.Doors.{cellTests}
+use Rattle.markers.specs.Contracts.{cellTests}
 use Rattle.markers.specs.Layout.{noLayout}
 use Rattle.homography.specs.Equations.{hasHomography}
 use Rattle.homography.specs.Homography.{singular}
@@ -30,7 +31,8 @@ inverseTests matrix result = check 3 (short matrix 9 || short result 9) ∷ chec
 -- `from_points`
 unfoldable pub pointsTests : List Float → List Float → List Float → List Check
 pointsTests source target matrix =
-    check 3 (short source 8 || short target 8 || short matrix 9) ∷ check 10 (not (hasHomography (quadOf source) (quadOf target))) ∷ []
+    check 3 (short source 8 || short target 8 || short matrix 9)
+    ∷ check 10 (not (hasHomography (quadOf source) (quadOf target))) ∷ []
 
 -- `rms_error`
 unfoldable pub errorTests : List Float → List Float → List Float → List Check

@@ -11,7 +11,7 @@ use Rattle.candidates.specs.Areas.{Areas}
 use Rattle.fit.specs.Grid.{scoreOf}
 use Rattle.search.specs.declared.Outcome.{Outcome}
 use Rattle.search.specs.declared.Outcome.the-variants.{NoHomography, Graded}
-use Rattle.fit_geometry.specs.Doors.{Fitting}
+use Rattle.fit_geometry.specs.Contracts.{Fitting}
 use Rattle.fit_geometry.specs.declared.PictureFit.{PictureFit}
 use Rattle.geometry.specs.Rectification.{Lent, Rectification}
 use Rattle.tablet.specs.Slices.{short, answered, told, Over}
@@ -48,19 +48,22 @@ pub record Told (a : PictureFit) (counts counts′ : List ℕ) (fit fit′ : Lis
   pub fit-is : fit′ ≡ answered r (scoredFit a) fit
 
 -- `fit_geometry`
-pub record Fitted (img : Image) (f : FrameSpec) (a b : Areas) (means means′ : List Float) (counts counts′ : List ℕ) (fit fit′ : List Float) (r : ℕ) : Type 0 where
+pub record Fitted (img : Image) (f : FrameSpec) (a b : Areas) (means means′ : List Float) (counts counts′ : List ℕ)
+    (fit fit′ : List Float) (r : ℕ) : Type 0 where
   pub answer : PictureFit
   pub fitting : Fitting img f a b means means′ answer
   pub tells : Told answer counts counts′ fit fit′ r
 
-abbrev pub FittedOver : Image → FrameSpec → Areas → Areas → List Float → List Float → List ℕ → List ℕ → List Float → List Float → ℕ → Type 0
+abbrev pub FittedOver : Image → FrameSpec → Areas → Areas → List Float → List Float → List ℕ → List ℕ → List Float
+    → List Float → ℕ → Type 0
 FittedOver img f a b means means′ counts counts′ fit fit′ r =
     Over (short counts 11 || short fit 14) (captureFirst img f) r
     ((b ≡ a) × (means′ ≡ means) × (counts′ ≡ counts) × (fit′ ≡ fit))
     (Fitted img f a b means means′ counts counts′ fit fit′ r)
 
 -- `rectify`
-pub record Flattened (img : Image) (f : FrameSpec) (a b : Lent) (counts counts′ : List ℕ) (fit fit′ : List Float) (r : ℕ) : Type 0 where
+pub record Flattened (img : Image) (f : FrameSpec) (a b : Lent) (counts counts′ : List ℕ) (fit fit′ : List Float)
+    (r : ℕ) : Type 0 where
   pub answer : PictureFit
   pub rectification : Rectification img f a b answer
   pub tells : Told answer counts counts′ fit fit′ r

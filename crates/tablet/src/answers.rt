@@ -1,4 +1,4 @@
-// The doors' answers as a number and a value, and the number where a slice of numbers is too short.
+// The public functions' answers as a number and a value, and the number where a slice of numbers is too short.
 use fit::Grade;
 use frame::FrameSpec;
 use frame::Number;
@@ -26,6 +26,7 @@ ghost use Rattle.fit.specs.Grid.{scoreOf};
 ghost use Rattle.tablet.specs.Layouts.{gradeNumber, outsideCell};
 ghost use Rattle.tablet.specs.Tests.{frameFirst, sidesFirst, captureFirst, maskFirst};
 
+// The number of a refusal, 0 of an acceptance.
 pub fn number_of(v: Verdict) -> u32
     ensures { λ r. ⌜ r ≡ numberOf v ⌝ }
 {
@@ -35,6 +36,7 @@ pub fn number_of(v: Verdict) -> u32
     }
 }
 
+// The refusal of an answer that is a number, 0 where there is none.
 pub fn count_number(a: Number) -> u32
     ensures { λ r. ⌜ r ≡ numberRefusal a ⌝ }
 {
@@ -44,6 +46,7 @@ pub fn count_number(a: Number) -> u32
     }
 }
 
+// Its value, 0 where it is refused.
 pub fn count_value(a: Number) -> u64
     ensures { λ r. ⌜ r ≡ numberValue a ⌝ }
 {
@@ -53,6 +56,7 @@ pub fn count_value(a: Number) -> u64
     }
 }
 
+// The refusal of a lens, 0 where there is none.
 pub fn lens_number(a: Lens) -> u32
     ensures { λ r. ⌜ r ≡ lensRefusal a ⌝ }
 {
@@ -62,6 +66,7 @@ pub fn lens_number(a: Lens) -> u32
     }
 }
 
+// The lens; where it is refused, one that bends nothing.
 pub fn lens_value(a: Lens) -> Radial
     ensures { λ r. ⌜ r ≡ lensValue a ⌝ }
 {
@@ -76,6 +81,7 @@ pub fn lens_value(a: Lens) -> Radial
     }
 }
 
+// The refusal of a colour, 0 where there is none.
 pub fn colour_number(a: Colour) -> u32
     ensures { λ r. ⌜ r ≡ colourRefusal a ⌝ }
 {
@@ -85,6 +91,7 @@ pub fn colour_number(a: Colour) -> u32
     }
 }
 
+// The colour, black where it is refused.
 pub fn colour_value(a: Colour) -> Rgb
     ensures { λ r. ⌜ r ≡ colourValue a ⌝ }
 {
@@ -94,6 +101,7 @@ pub fn colour_value(a: Colour) -> Rgb
     }
 }
 
+// The refusal of marker centres, 0 where there is none.
 pub fn centers_number(a: Centers) -> u32
     ensures { λ r. ⌜ r ≡ centersRefusal a ⌝ }
 {
@@ -103,6 +111,7 @@ pub fn centers_number(a: Centers) -> u32
     }
 }
 
+// The centres, all 0 where they are refused.
 pub fn centers_value(a: Centers) -> Quad
     ensures { λ r. ⌜ r ≡ centersValue a ⌝ }
 {
@@ -128,6 +137,7 @@ pub fn grade_number(g: Grade) -> u64
     }
 }
 
+// The cell of a grade that is outside, else 0.
 pub fn outside_cell(g: Grade) -> u64
     ensures { λ r. ⌜ r ≡ outsideCell g ⌝ }
 {
@@ -138,6 +148,7 @@ pub fn outside_cell(g: Grade) -> u64
     }
 }
 
+// The score that a grade stands for: outside and too few as −∞.
 pub fn score_of(g: Grade) -> f64
     ensures { λ r. ⌜ r ≡ scoreOf g ⌝ }
 {
@@ -157,6 +168,7 @@ pub fn untouched(n: u32) -> bool
 
 // ---- where a slice of numbers is too short: a lower number that applies, or 3
 
+// What goes before a slice that is too short: 1 for a frame outside its limits, else 3.
 pub fn frame_first(frame: FrameSpec) -> u32
     ensures { λ r. ⌜ (r ≡ lowestOf (frameFirst frame)) × (r ≡ 0 → ⊥) ⌝ }
 {
@@ -166,6 +178,7 @@ pub fn frame_first(frame: FrameSpec) -> u32
     3
 }
 
+// The same with the sides of a capture, 2 between them.
 pub fn sides_first(w: usize, h: usize, frame: FrameSpec) -> u32
     ensures { λ r. ⌜ (r ≡ lowestOf (sidesFirst w h frame)) × (r ≡ 0 → ⊥) ⌝ }
 {
@@ -178,6 +191,7 @@ pub fn sides_first(w: usize, h: usize, frame: FrameSpec) -> u32
     3
 }
 
+// The same with a whole capture.
 pub fn capture_first(capture: &[u8], w: usize, h: usize, frame: FrameSpec) -> u32
     ensures { λ r. ⌜ r ≡ lowestOf (captureFirst (image w h (now (capture .entry))) frame) ⌝ }
 {
@@ -190,6 +204,7 @@ pub fn capture_first(capture: &[u8], w: usize, h: usize, frame: FrameSpec) -> u3
     3
 }
 
+// The same with a mask and its sides: 2, else 3.
 pub fn mask_first(mask: usize, w: usize, h: usize) -> u32
     ensures { λ r. ⌜ r ≡ lowestOf (maskFirst mask w h) ⌝ }
 {

@@ -18,7 +18,7 @@ ghost use Rattle.fit.specs.Fits.{fitFor};
 ghost use Rattle.tablet.specs.Slices.{Answer};
 ghost use Rattle.tablet.specs.Layouts.{frame, quadOf, fitNumbers};
 ghost use Rattle.tablet.specs.Tests.{fitTests};
-ghost use Rattle.tablet.specs.Doors.{GridScored};
+ghost use Rattle.tablet.specs.Contracts.{GridScored};
 
 // The fit for a lens term over four observed points.
 #[no_mangle]
@@ -33,7 +33,9 @@ pub extern "C" fn tablet_fit_for(
     k: f64,
     fit: &mut [f64],
 ) -> u32
-    ensures { λ r. ⌜ Answer (fitTests w h (frame width height cell margin) (now (points .entry)) k (now (fit .entry))) (fitNumbers (fitFor w h (frame width height cell margin) (quadOf (now (points .entry))) k)) (now (fit .entry)) r (now (fit .exit)) ⌝ }
+    ensures { λ r. ⌜ Answer (fitTests w h (frame width height cell margin) (now (points .entry)) k
+        (now (fit .entry))) (fitNumbers (fitFor w h (frame width height cell margin) (quadOf (now (points .entry)))
+        k)) (now (fit .entry)) r (now (fit .exit)) ⌝ }
 {
     let f = FrameSpec {
         width: width,
@@ -71,7 +73,9 @@ pub extern "C" fn tablet_grid_score(
     grade: &mut [u64],
     score: &mut [f64],
 ) -> u32
-    ensures { λ r. ⌜ GridScored (image w h (now (capture .entry))) (frame width height cell margin) (now (fit .entry)) (now (means .entry)) (now (means .exit)) (now (grade .entry)) (now (grade .exit)) (now (score .entry)) (now (score .exit)) r ⌝ }
+    ensures { λ r. ⌜ GridScored (image w h (now (capture .entry))) (frame width height cell margin)
+        (now (fit .entry)) (now (means .entry)) (now (means .exit)) (now (grade .entry)) (now (grade .exit))
+        (now (score .entry)) (now (score .exit)) r ⌝ }
 {
     let f = FrameSpec {
         width: width,

@@ -13,7 +13,7 @@ use frame::internal::sides_wrong;
 ghost use mathlib.Core.List.{[], _∷_};
 ghost use Rattle.frame.specs.Frame.{cols, rows};
 ghost use Rattle.frame.specs.Refusals.{verdictOf};
-ghost use Rattle.markers.specs.Doors.{Stamping};
+ghost use Rattle.markers.specs.Contracts.{Stamping};
 ghost use Rattle.markers.specs.Layout.{markerSize, quietZone, marginFor, markerCenters};
 ghost use Rattle.tablet.specs.Slices.{Answer};
 ghost use Rattle.tablet.specs.Layouts.{frame, quadNumbers, lengthNumbers};
@@ -30,7 +30,8 @@ pub extern "C" fn tablet_lengths(
     margin: usize,
     lengths: &mut [u64],
 ) -> u32
-    ensures { λ r. ⌜ Answer (lengthTests w h (frame width height cell margin) (now (lengths .entry))) (lengthNumbers w h (frame width height cell margin)) (now (lengths .entry)) r (now (lengths .exit)) ⌝ }
+    ensures { λ r. ⌜ Answer (lengthTests w h (frame width height cell margin) (now (lengths .entry))) (lengthNumbers
+        w h (frame width height cell margin)) (now (lengths .entry)) r (now (lengths .exit)) ⌝ }
 {
     let f = FrameSpec {
         width: width,
@@ -77,7 +78,9 @@ pub extern "C" fn tablet_grid(
     margin: usize,
     numbers: &mut [u64],
 ) -> u32
-    ensures { λ r. ⌜ Answer (cellsTests (frame width height cell margin) (now (numbers .entry))) (cols (frame width height cell margin) ∷ rows (frame width height cell margin) ∷ []) (now (numbers .entry)) r (now (numbers .exit)) ⌝ }
+    ensures { λ r. ⌜ Answer (cellsTests (frame width height cell margin) (now (numbers .entry)))
+        (cols (frame width height cell margin) ∷ rows (frame width height cell margin) ∷ []) (now (numbers .entry))
+        r (now (numbers .exit)) ⌝ }
 {
     let f = FrameSpec {
         width: width,
@@ -101,7 +104,8 @@ pub extern "C" fn tablet_grid(
 // Marker side, quiet zone and the margin for a cell.
 #[no_mangle]
 pub extern "C" fn tablet_marker_numbers(cell: usize, numbers: &mut [u64]) -> u32
-    ensures { λ r. ⌜ Answer (markerTests cell (now (numbers .entry))) (markerSize cell ∷ quietZone cell ∷ marginFor cell ∷ []) (now (numbers .entry)) r (now (numbers .exit)) ⌝ }
+    ensures { λ r. ⌜ Answer (markerTests cell (now (numbers .entry))) (markerSize cell ∷ quietZone cell ∷ marginFor
+        cell ∷ []) (now (numbers .entry)) r (now (numbers .exit)) ⌝ }
 {
     let size = markers::marker_size(cell);
     let n = count_number(size);
@@ -129,7 +133,9 @@ pub extern "C" fn tablet_marker_centers(
     margin: usize,
     points: &mut [f64],
 ) -> u32
-    ensures { λ r. ⌜ Answer (centerTests (frame width height cell margin) (now (points .entry))) (quadNumbers (markerCenters (frame width height cell margin))) (now (points .entry)) r (now (points .exit)) ⌝ }
+    ensures { λ r. ⌜ Answer (centerTests (frame width height cell margin) (now (points .entry)))
+        (quadNumbers (markerCenters (frame width height cell margin))) (now (points .entry)) r
+        (now (points .exit)) ⌝ }
 {
     let f = FrameSpec {
         width: width,
@@ -161,7 +167,8 @@ pub extern "C" fn tablet_stamp_fiducials(
     cell: usize,
     margin: usize,
 ) -> u32
-    ensures { λ r. ⌜ Stamping (record { w = w; h = h; bytes = now (image .entry) }) (frame width height cell margin) (verdictOf r) (now (image .exit)) ⌝ }
+    ensures { λ r. ⌜ Stamping (record { w = w; h = h; bytes = now (image .entry) }) (frame width height cell margin)
+        (verdictOf r) (now (image .exit)) ⌝ }
 {
     let f = FrameSpec {
         width: width,

@@ -14,7 +14,8 @@ ghost use Rattle.tablet.specs.Tests.{lensTests, moveTests};
 // The lens of a capture of w by h with the term k.
 #[no_mangle]
 pub extern "C" fn tablet_radial(w: usize, h: usize, k: f64, lens: &mut [f64]) -> u32
-    ensures { λ r. ⌜ Answer (lensTests w h (now (lens .entry))) (lensNumbers (model.radial w h k)) (now (lens .entry)) r (now (lens .exit)) ⌝ }
+    ensures { λ r. ⌜ Answer (lensTests w h (now (lens .entry))) (lensNumbers (model.radial w h k))
+        (now (lens .entry)) r (now (lens .exit)) ⌝ }
 {
     let a = Radial::new(w, h, k);
     let n = lens_number(a);
@@ -32,7 +33,8 @@ pub extern "C" fn tablet_radial(w: usize, h: usize, k: f64, lens: &mut [f64]) ->
 // Pinhole point to observed point.
 #[no_mangle]
 pub extern "C" fn tablet_distort(lens: &[f64], x: f64, y: f64, point: &mut [f64]) -> u32
-    ensures { λ r. ⌜ Answer (moveTests 4 (now (lens .entry)) (now (point .entry))) (pointNumbers (model.distort (lensOf (now (lens .entry))) (record { x = x; y = y }))) (now (point .entry)) r (now (point .exit)) ⌝ }
+    ensures { λ r. ⌜ Answer (moveTests 4 (now (lens .entry)) (now (point .entry))) (pointNumbers (model.distort
+        (lensOf (now (lens .entry))) (record { x = x; y = y }))) (now (point .entry)) r (now (point .exit)) ⌝ }
 {
     if short(lens.len(), 4, point.len(), 2) {
         return 3;
@@ -46,7 +48,8 @@ pub extern "C" fn tablet_distort(lens: &[f64], x: f64, y: f64, point: &mut [f64]
 // Observed point to pinhole point.
 #[no_mangle]
 pub extern "C" fn tablet_undistort(lens: &[f64], x: f64, y: f64, point: &mut [f64]) -> u32
-    ensures { λ r. ⌜ Answer (moveTests 4 (now (lens .entry)) (now (point .entry))) (pointNumbers (model.undistort (lensOf (now (lens .entry))) (record { x = x; y = y }))) (now (point .entry)) r (now (point .exit)) ⌝ }
+    ensures { λ r. ⌜ Answer (moveTests 4 (now (lens .entry)) (now (point .entry))) (pointNumbers (model.undistort
+        (lensOf (now (lens .entry))) (record { x = x; y = y }))) (now (point .entry)) r (now (point .exit)) ⌝ }
 {
     if short(lens.len(), 4, point.len(), 2) {
         return 3;

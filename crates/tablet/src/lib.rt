@@ -1,4 +1,4 @@
-// The library for the tablet: every door of the port for C and Rust (host/include/tablet.h).
+// The library for the tablet: every public function of the port for C and Rust (host/include/tablet.h).
 //
 // A function's own result is the refusal number of document 01, 0 where it accepts: the lowest that
 // applies. Numbers are handed in and answered in lent slices, which may be longer than they need

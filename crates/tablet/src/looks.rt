@@ -17,11 +17,13 @@ ghost use Rattle.frame.specs.Refusals.{numberOf};
 ghost use Rattle.candidates.specs.Areas.{areas};
 ghost use Rattle.tablet.specs.Slices.{answered, told};
 ghost use Rattle.tablet.specs.Layouts.{frame, listNumbers, placeNumbers, quadNumbers};
-ghost use Rattle.tablet.specs.Doors.{ListedOver, DetectedOver};
+ghost use Rattle.tablet.specs.Contracts.{ListedOver, DetectedOver};
 
+// The number of an answer, with the counts of the lists where it is accepted.
 fn answer_listed(a: Listed, counts: &mut [u64]) -> u32
     requires { ⌜ 3 ≤ length (now counts) ⌝ }
-    ensures { λ r. ⌜ (r ≡ numberOf (a .verdict)) × (now (counts .exit) ≡ answered r (listNumbers (a .patches) (a .candidates) (a .waiting)) (now (counts .entry))) ⌝ }
+    ensures { λ r. ⌜ (r ≡ numberOf (a .verdict)) × (now (counts .exit) ≡ answered r (listNumbers (a .patches)
+        (a .candidates) (a .waiting)) (now (counts .entry))) ⌝ }
 {
     let v = a.verdict;
     let n = number_of(v);
@@ -35,9 +37,13 @@ fn answer_listed(a: Listed, counts: &mut [u64]) -> u32
     0
 }
 
+// The number of an answer, with counts and places unless a test refused, and the points where it
+// is accepted.
 fn answer_detected(a: Detected, counts: &mut [u64], points: &mut [f64]) -> u32
     requires { ⌜ (7 ≤ length (now counts)) × (8 ≤ length (now points)) ⌝ }
-    ensures { λ r. ⌜ (r ≡ numberOf (a .verdict)) × (now (counts .exit) ≡ told r (listNumbers (a .patches) (a .candidates) (a .waiting) ++ placeNumbers (a .places)) (now (counts .entry))) × (now (points .exit) ≡ answered r (quadNumbers (a .quad)) (now (points .entry))) ⌝ }
+    ensures { λ r. ⌜ (r ≡ numberOf (a .verdict)) × (now (counts .exit)
+        ≡ told r (listNumbers (a .patches) (a .candidates) (a .waiting) ++ placeNumbers (a .places))
+        (now (counts .entry))) × (now (points .exit) ≡ answered r (quadNumbers (a .quad)) (now (points .entry))) ⌝ }
 {
     let v = a.verdict;
     let n = number_of(v);
@@ -86,8 +92,10 @@ pub extern "C" fn tablet_fiducial_candidates(
     counts: &mut [u64],
 ) -> u32
     ensures { λ r. ⌜ ListedOver (image w h (now (capture .entry))) (frame width height cell margin)
-        (areas (now (luma .entry)) (now (integral .entry)) (now (mask .entry)) (now (seen .entry)) (now (waiting .entry)) (now (patches .entry)) (now (candidates .entry)) (now («blob_index» .entry)))
-        (areas (now (luma .exit)) (now (integral .exit)) (now (mask .exit)) (now (seen .exit)) (now (waiting .exit)) (now (patches .exit)) (now (candidates .exit)) (now («blob_index» .exit)))
+        (areas (now (luma .entry)) (now (integral .entry)) (now (mask .entry)) (now (seen .entry))
+        (now (waiting .entry)) (now (patches .entry)) (now (candidates .entry)) (now («blob_index» .entry)))
+        (areas (now (luma .exit)) (now (integral .exit)) (now (mask .exit)) (now (seen .exit)) (now (waiting .exit))
+        (now (patches .exit)) (now (candidates .exit)) (now («blob_index» .exit)))
         (now (counts .entry)) (now (counts .exit)) r ⌝ }
 {
     let f = FrameSpec {
@@ -138,8 +146,10 @@ pub extern "C" fn tablet_detect_fiducials(
     points: &mut [f64],
 ) -> u32
     ensures { λ r. ⌜ DetectedOver (image w h (now (capture .entry))) (frame width height cell margin)
-        (areas (now (luma .entry)) (now (integral .entry)) (now (mask .entry)) (now (seen .entry)) (now (waiting .entry)) (now (patches .entry)) (now (candidates .entry)) (now («blob_index» .entry)))
-        (areas (now (luma .exit)) (now (integral .exit)) (now (mask .exit)) (now (seen .exit)) (now (waiting .exit)) (now (patches .exit)) (now (candidates .exit)) (now («blob_index» .exit)))
+        (areas (now (luma .entry)) (now (integral .entry)) (now (mask .entry)) (now (seen .entry))
+        (now (waiting .entry)) (now (patches .entry)) (now (candidates .entry)) (now («blob_index» .entry)))
+        (areas (now (luma .exit)) (now (integral .exit)) (now (mask .exit)) (now (seen .exit)) (now (waiting .exit))
+        (now (patches .exit)) (now (candidates .exit)) (now («blob_index» .exit)))
         (now (counts .entry)) (now (counts .exit)) (now (points .entry)) (now (points .exit)) r ⌝ }
 {
     let f = FrameSpec {

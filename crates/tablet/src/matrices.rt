@@ -23,7 +23,9 @@ ghost use Rattle.tablet.specs.Tests.{productTests, moveTests, inverseTes
 // The matrix product a b.
 #[no_mangle]
 pub extern "C" fn tablet_mat3_mul(a: &[f64], b: &[f64], result: &mut [f64]) -> u32
-    ensures { λ r. ⌜ Answer (productTests (now (a .entry)) (now (b .entry)) (now (result .entry))) (matrixNumbers (mat.mat3Mul (matrixOf (now (a .entry)) .m) (matrixOf (now (b .entry)) .m))) (now (result .entry)) r (now (result .exit)) ⌝ }
+    ensures { λ r. ⌜ Answer (productTests (now (a .entry)) (now (b .entry)) (now (result .entry))) (matrixNumbers
+        (mat.mat3Mul (matrixOf (now (a .entry)) .m) (matrixOf (now (b .entry)) .m))) (now (result .entry)) r
+        (now (result .exit)) ⌝ }
 {
     if short3(a.len(), 9, b.len(), 9, result.len(), 9) {
         return 3;
@@ -38,7 +40,9 @@ pub extern "C" fn tablet_mat3_mul(a: &[f64], b: &[f64], result: &mut [f64]) -> u
 // Where a matrix takes a point.
 #[no_mangle]
 pub extern "C" fn tablet_apply(matrix: &[f64], x: f64, y: f64, point: &mut [f64]) -> u32
-    ensures { λ r. ⌜ Answer (moveTests 9 (now (matrix .entry)) (now (point .entry))) (pointNumbers (mat.apply (matrixOf (now (matrix .entry))) (record { x = x; y = y }))) (now (point .entry)) r (now (point .exit)) ⌝ }
+    ensures { λ r. ⌜ Answer (moveTests 9 (now (matrix .entry)) (now (point .entry))) (pointNumbers
+        (mat.apply (matrixOf (now (matrix .entry))) (record { x = x; y = y }))) (now (point .entry)) r
+        (now (point .exit)) ⌝ }
 {
     if short(matrix.len(), 9, point.len(), 2) {
         return 3;
@@ -52,7 +56,8 @@ pub extern "C" fn tablet_apply(matrix: &[f64], x: f64, y: f64, point: &mut [f64]
 // What from_points and inverse give: the matrix goes into the slice where there is one.
 fn answer(s: Solved, result: &mut [f64]) -> u32
     requires { ⌜ 9 ≤ length (now result) ⌝ }
-    ensures { λ r. ⌜ (r ≡ numberOf (s .verdict)) × (now (result .exit) ≡ answered r (matrixNumbers (s .h .m)) (now (result .entry))) ⌝ }
+    ensures { λ r. ⌜ (r ≡ numberOf (s .verdict)) × (now (result .exit) ≡ answered r (matrixNumbers (s .h .m))
+        (now (result .entry))) ⌝ }
 {
     let v = s.verdict;
     let n = number_of(v);
@@ -68,7 +73,8 @@ fn answer(s: Solved, result: &mut [f64]) -> u32
 // The inverse of a matrix.
 #[no_mangle]
 pub extern "C" fn tablet_inverse(matrix: &[f64], result: &mut [f64]) -> u32
-    ensures { λ r. ⌜ Answer (inverseTests (now (matrix .entry)) (now (result .entry))) (matrixNumbers (mat.inverse (matrixOf (now (matrix .entry))) .h .m)) (now (result .entry)) r (now (result .exit)) ⌝ }
+    ensures { λ r. ⌜ Answer (inverseTests (now (matrix .entry)) (now (result .entry))) (matrixNumbers
+        (mat.inverse (matrixOf (now (matrix .entry))) .h .m)) (now (result .entry)) r (now (result .exit)) ⌝ }
 {
     if short(matrix.len(), 9, result.len(), 9) {
         return 3;
@@ -81,7 +87,9 @@ pub extern "C" fn tablet_inverse(matrix: &[f64], result: &mut [f64]) -> u32
 // The homography that takes each point of source to that of target.
 #[no_mangle]
 pub extern "C" fn tablet_from_points(source: &[f64], target: &[f64], matrix: &mut [f64]) -> u32
-    ensures { λ r. ⌜ Answer (pointsTests (now (source .entry)) (now (target .entry)) (now (matrix .entry))) (matrixNumbers (dlt.fromPoints (quadOf (now (source .entry))) (quadOf (now (target .entry))) .h .m)) (now (matrix .entry)) r (now (matrix .exit)) ⌝ }
+    ensures { λ r. ⌜ Answer (pointsTests (now (source .entry)) (now (target .entry)) (now (matrix .entry)))
+        (matrixNumbers (dlt.fromPoints (quadOf (now (source .entry))) (quadOf (now (target .entry))) .h .m))
+        (now (matrix .entry)) r (now (matrix .exit)) ⌝ }
 {
     if short3(source.len(), 8, target.len(), 8, matrix.len(), 9) {
         return 3;
@@ -95,7 +103,8 @@ pub extern "C" fn tablet_from_points(source: &[f64], target: &[f64], matrix: &mu
 // The root of the mean squared distance of four points from four others.
 #[no_mangle]
 pub extern "C" fn tablet_rms_error(a: &[f64], b: &[f64], result: &mut [f64]) -> u32
-    ensures { λ r. ⌜ Answer (errorTests (now (a .entry)) (now (b .entry)) (now (result .entry))) (mat.rmsError (quadOf (now (a .entry))) (quadOf (now (b .entry))) ∷ []) (now (result .entry)) r (now (result .exit)) ⌝ }
+    ensures { λ r. ⌜ Answer (errorTests (now (a .entry)) (now (b .entry)) (now (result .entry))) (mat.rmsError
+        (quadOf (now (a .entry))) (quadOf (now (b .entry))) ∷ []) (now (result .entry)) r (now (result .exit)) ⌝ }
 {
     if short3(a.len(), 8, b.len(), 8, result.len(), 1) {
         return 3;

@@ -12,7 +12,7 @@ ghost use Rattle.sampling.specs.Reading.{bilinear};
 ghost use Rattle.tablet.specs.Slices.{Answer};
 ghost use Rattle.tablet.specs.Layouts.{frame, colourNumbers};
 ghost use Rattle.tablet.specs.Tests.{colourTests};
-ghost use Rattle.tablet.specs.Doors.{Warped, LabelledOver};
+ghost use Rattle.tablet.specs.Contracts.{Warped, LabelledOver};
 
 // The colour of a capture at a position.
 #[no_mangle]
@@ -24,7 +24,9 @@ pub extern "C" fn tablet_bilinear(
     y: f64,
     colour: &mut [u8],
 ) -> u32
-    ensures { λ r. ⌜ Answer (colourTests (image w h (now (capture .entry))) (now (colour .entry))) (colourNumbers (bilinear (image w h (now (capture .entry))) (record { x = x; y = y }))) (now (colour .entry)) r (now (colour .exit)) ⌝ }
+    ensures { λ r. ⌜ Answer (colourTests (image w h (now (capture .entry))) (now (colour .entry))) (colourNumbers
+        (bilinear (image w h (now (capture .entry))) (record { x = x; y = y }))) (now (colour .entry)) r
+        (now (colour .exit)) ⌝ }
 {
     let a = sampling::bilinear(capture, w, h, x, y);
     let n = colour_number(a);
@@ -52,7 +54,8 @@ pub extern "C" fn tablet_warp_with(
     fit: &[f64],
     canonical: &mut [u8],
 ) -> u32
-    ensures { λ r. ⌜ Warped (image w h (now (capture .entry))) (frame width height cell margin) (now (fit .entry)) (now (canonical .entry)) (now (canonical .exit)) r ⌝ }
+    ensures { λ r. ⌜ Warped (image w h (now (capture .entry))) (frame width height cell margin) (now (fit .entry))
+        (now (canonical .entry)) (now (canonical .exit)) r ⌝ }
 {
     let f = FrameSpec {
         width: width,
@@ -79,7 +82,9 @@ pub extern "C" fn tablet_label_blobs(
     patches: &mut [u64],
     counts: &mut [u64],
 ) -> u32
-    ensures { λ r. ⌜ LabelledOver (now (mask .entry)) w h (now (seen .entry)) (now (waiting .entry)) (now (patches .entry)) (now (seen .exit)) (now (waiting .exit)) (now (patches .exit)) (now (counts .entry)) (now (counts .exit)) r ⌝ }
+    ensures { λ r. ⌜ LabelledOver (now (mask .entry)) w h (now (seen .entry)) (now (waiting .entry))
+        (now (patches .entry)) (now (seen .exit)) (now (waiting .exit)) (now (patches .exit)) (now (counts .entry))
+        (now (counts .exit)) r ⌝ }
 {
     if counts.len() < 2 {
         return mask_first(mask.len(), w, h);

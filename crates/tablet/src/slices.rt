@@ -12,7 +12,8 @@ ghost use Prim.Native.Nat.{_≤_};
 ghost use lib.Dec.{ltb};
 ghost use lib.ListN.{length};
 ghost use Rattle.tablet.specs.Slices.{written};
-ghost use Rattle.tablet.specs.Layouts.{quadOf, matrixOf, lensOf, fitOf, pointNumbers, quadNumbers, lensNumbers, matrixNumbers, fitNumbers};
+ghost use Rattle.tablet.specs.Layouts.{quadOf, matrixOf, lensOf, fitOf, pointNumbers, quadNumbers};
+ghost use Rattle.tablet.specs.Layouts.{lensNumbers, matrixNumbers, fitNumbers};
 
 // One of two slices, of a and b entries, is shorter than m or n.
 pub fn short(a: usize, m: usize, b: usize, n: usize) -> bool
@@ -30,6 +31,7 @@ pub fn short3(a: usize, m: usize, b: usize, n: usize, d: usize, k: usize) -> boo
 
 // ---- out of a slice
 
+// Nine numbers as a matrix, by rows.
 pub fn matrix(l: &[f64]) -> Homography
     requires { ⌜ 9 ≤ length (now l) ⌝ }
     ensures { λ r. ⌜ r ≡ matrixOf (now (l .entry)) ⌝ }
@@ -41,6 +43,7 @@ pub fn matrix(l: &[f64]) -> Homography
     Homography::from_mat(m)
 }
 
+// Eight numbers as four points, x and y of TL, TR, BR, BL.
 pub fn quad(l: &[f64]) -> Quad
     requires { ⌜ 8 ≤ length (now l) ⌝ }
     ensures { λ r. ⌜ r ≡ quadOf (now (l .entry)) ⌝ }
@@ -53,6 +56,7 @@ pub fn quad(l: &[f64]) -> Quad
     }
 }
 
+// Four numbers as a lens: k, cx, cy, norm.
 pub fn lens(l: &[f64]) -> Radial
     requires { ⌜ 4 ≤ length (now l) ⌝ }
     ensures { λ r. ⌜ r ≡ lensOf (now (l .entry)) ⌝ }
@@ -65,6 +69,7 @@ pub fn lens(l: &[f64]) -> Radial
     }
 }
 
+// Thirteen numbers as a fit: the matrix, then the lens.
 pub fn fit(l: &[f64]) -> GeometryFit
     requires { ⌜ 13 ≤ length (now l) ⌝ }
     ensures { λ r. ⌜ r ≡ fitOf (now (l .entry)) ⌝ }
@@ -81,6 +86,7 @@ pub fn fit(l: &[f64]) -> GeometryFit
 
 // ---- into a slice: the values go over its start
 
+// Writes the values over the start of a slice.
 pub fn store(out: &mut [f64], values: &[f64])
     requires { ⌜ length (now values) ≤ length (now out) ⌝ }
     ensures { λ _. ⌜ now (out .exit) ≡ written (now (values .entry)) (now (out .entry)) ⌝ }
@@ -90,6 +96,7 @@ pub fn store(out: &mut [f64], values: &[f64])
     }
 }
 
+// The same for whole numbers.
 pub fn store_counts(out: &mut [u64], values: &[u64])
     requires { ⌜ length (now values) ≤ length (now out) ⌝ }
     ensures { λ _. ⌜ now (out .exit) ≡ written (now (values .entry)) (now (out .entry)) ⌝ }
@@ -99,6 +106,7 @@ pub fn store_counts(out: &mut [u64], values: &[u64])
     }
 }
 
+// The same for bytes.
 pub fn store_bytes(out: &mut [u8], values: &[u8])
     requires { ⌜ length (now values) ≤ length (now out) ⌝ }
     ensures { λ _. ⌜ now (out .exit) ≡ written (now (values .entry)) (now (out .entry)) ⌝ }
@@ -108,6 +116,7 @@ pub fn store_bytes(out: &mut [u8], values: &[u8])
     }
 }
 
+// Writes a point as two numbers.
 pub fn store_point(out: &mut [f64], p: Point)
     requires { ⌜ 2 ≤ length (now out) ⌝ }
     ensures { λ _. ⌜ now (out .exit) ≡ written (pointNumbers p) (now (out .entry)) ⌝ }
@@ -115,6 +124,7 @@ pub fn store_point(out: &mut [f64], p: Point)
     store(out, &[p.x, p.y]);
 }
 
+// Writes four points as eight numbers, TL, TR, BR, BL.
 pub fn store_quad(out: &mut [f64], q: Quad)
     requires { ⌜ 8 ≤ length (now out) ⌝ }
     ensures { λ _. ⌜ now (out .exit) ≡ written (quadNumbers q) (now (out .entry)) ⌝ }
@@ -134,6 +144,7 @@ pub fn store_quad(out: &mut [f64], q: Quad)
     );
 }
 
+// Writes a lens as four numbers.
 pub fn store_lens(out: &mut [f64], l: Radial)
     requires { ⌜ 4 ≤ length (now out) ⌝ }
     ensures { λ _. ⌜ now (out .exit) ≡ written (lensNumbers l) (now (out .entry)) ⌝ }
@@ -141,6 +152,7 @@ pub fn store_lens(out: &mut [f64], l: Radial)
     store(out, &[l.k, l.cx, l.cy, l.norm]);
 }
 
+// Writes a matrix as nine numbers, by rows.
 pub fn store_matrix(out: &mut [f64], m: Mat3)
     requires { ⌜ 9 ≤ length (now out) ⌝ }
     ensures { λ _. ⌜ now (out .exit) ≡ written (matrixNumbers m) (now (out .entry)) ⌝ }
@@ -148,6 +160,7 @@ pub fn store_matrix(out: &mut [f64], m: Mat3)
     store(out, &[m[0], m[1], m[2], m[3], m[4], m[5], m[6], m[7], m[8]]);
 }
 
+// Writes a fit as thirteen numbers: the matrix, then the lens.
 pub fn store_fit(out: &mut [f64], fit: GeometryFit)
     requires { ⌜ 13 ≤ length (now out) ⌝ }
     ensures { λ _. ⌜ now (out .exit) ≡ written (fitNumbers fit) (now (out .entry)) ⌝ }

@@ -23,6 +23,7 @@ ghost use Rattle.tablet.specs.Whole as whole;
 
 // ---- the kept trial's numbers
 
+// The kept trial's grade as a number: 0 scored, 1 outside, 2 too few, 3 none.
 fn kept_number(kept: Outcome) -> u64
     ensures { λ r. ⌜ r ≡ whole.keptNumber kept ⌝ }
 {
@@ -32,6 +33,7 @@ fn kept_number(kept: Outcome) -> u64
     }
 }
 
+// The outside cell of the kept trial, else 0.
 fn kept_cell(kept: Outcome) -> u64
     ensures { λ r. ⌜ r ≡ whole.keptCell kept ⌝ }
 {
@@ -41,6 +43,7 @@ fn kept_cell(kept: Outcome) -> u64
     }
 }
 
+// The kept trial's score, −∞ where it has none.
 fn kept_score(kept: Outcome) -> f64
     ensures { λ r. ⌜ r ≡ whole.keptScore kept ⌝ }
 {
@@ -52,6 +55,7 @@ fn kept_score(kept: Outcome) -> f64
 
 // ---- an answer into the slices
 
+// Writes the eleven counts of an answer.
 fn store_found(counts: &mut [u64], a: PictureFit)
     requires { ⌜ 11 ≤ length (now counts) ⌝ }
     ensures { λ _. ⌜ now (counts .exit) ≡ written (whole.foundNumbers a) (now (counts .entry)) ⌝ }
@@ -78,6 +82,7 @@ fn store_found(counts: &mut [u64], a: PictureFit)
     );
 }
 
+// Writes the fit and its score as fourteen numbers.
 fn store_scored(fit: &mut [f64], a: PictureFit)
     requires { ⌜ 14 ≤ length (now fit) ⌝ }
     ensures { λ _. ⌜ now (fit .exit) ≡ written (whole.scoredFit a) (now (fit .entry)) ⌝ }
@@ -127,7 +132,7 @@ fn tell(a: PictureFit, counts: &mut [u64], fit: &mut [f64]) -> u32
     n
 }
 
-// ---- the doors
+// ---- the exported functions
 
 // The fit alone.
 #[no_mangle]
@@ -152,9 +157,12 @@ pub extern "C" fn tablet_fit_geometry(
     fit: &mut [f64],
 ) -> u32
     ensures { λ r. ⌜ whole.FittedOver (image w h (now (capture .entry))) (frame width height cell margin)
-        (areas (now (luma .entry)) (now (integral .entry)) (now (mask .entry)) (now (seen .entry)) (now (waiting .entry)) (now (patches .entry)) (now (candidates .entry)) (now («blob_index» .entry)))
-        (areas (now (luma .exit)) (now (integral .exit)) (now (mask .exit)) (now (seen .exit)) (now (waiting .exit)) (now (patches .exit)) (now (candidates .exit)) (now («blob_index» .exit)))
-        (now (means .entry)) (now (means .exit)) (now (counts .entry)) (now (counts .exit)) (now (fit .entry)) (now (fit .exit)) r ⌝ }
+        (areas (now (luma .entry)) (now (integral .entry)) (now (mask .entry)) (now (seen .entry))
+        (now (waiting .entry)) (now (patches .entry)) (now (candidates .entry)) (now («blob_index» .entry)))
+        (areas (now (luma .exit)) (now (integral .exit)) (now (mask .exit)) (now (seen .exit)) (now (waiting .exit))
+        (now (patches .exit)) (now (candidates .exit)) (now («blob_index» .exit)))
+        (now (means .entry)) (now (means .exit)) (now (counts .entry)) (now (counts .exit)) (now (fit .entry))
+        (now (fit .exit)) r ⌝ }
 {
     let f = FrameSpec {
         width: width,
@@ -207,8 +215,12 @@ pub extern "C" fn tablet_rectify(
     fit: &mut [f64],
 ) -> u32
     ensures { λ r. ⌜ whole.FlattenedOver (image w h (now (capture .entry))) (frame width height cell margin)
-        (lent (areas (now (luma .entry)) (now (integral .entry)) (now (mask .entry)) (now (seen .entry)) (now (waiting .entry)) (now (patches .entry)) (now (candidates .entry)) (now («blob_index» .entry))) (now (means .entry)) (now (canonical .entry)))
-        (lent (areas (now (luma .exit)) (now (integral .exit)) (now (mask .exit)) (now (seen .exit)) (now (waiting .exit)) (now (patches .exit)) (now (candidates .exit)) (now («blob_index» .exit))) (now (means .exit)) (now (canonical .exit)))
+        (lent (areas (now (luma .entry)) (now (integral .entry)) (now (mask .entry)) (now (seen .entry))
+        (now (waiting .entry)) (now (patches .entry)) (now (candidates .entry)) (now («blob_index» .entry)))
+        (now (means .entry)) (now (canonical .entry)))
+        (lent (areas (now (luma .exit)) (now (integral .exit)) (now (mask .exit)) (now (seen .exit))
+        (now (waiting .exit)) (now (patches .exit)) (now (candidates .exit)) (now («blob_index» .exit)))
+        (now (means .exit)) (now (canonical .exit)))
         (now (counts .entry)) (now (counts .exit)) (now (fit .entry)) (now (fit .exit)) r ⌝ }
 {
     let f = FrameSpec {

@@ -22,6 +22,7 @@ littleEndian b p =
 unfoldable pub wordOf : List ℕ → ℕ → ℕ
 wordOf b i = cond (ltb i (length b / 8)) (littleEndian b (i * 8)) 0
 
--- the 16 hexadecimal digits of w, the most significant first, and a line feed: byte i is the digit of 16 ^ (15 - i) for i below 16, and byte 16 is 10
+-- the 16 hexadecimal digits of w, the most significant first, and a line feed: byte i is the digit of 16 ^ (15 - i)
+-- for i below 16, and byte 16 is 10
 unfoldable pub hexLine : ℕ → List ℕ
 hexLine w = digits 16 16 w ++ (10 ∷ [])

@@ -7,7 +7,7 @@ use borrow.Author.Needs.{needs}
 use lib.ListN.{length}
 use Rattle.frame.specs.Refusals.{lowestOf, verdictOf}
 use Rattle.frame.proofs.Given.{verdict-accepted}
-use Rattle.blobs.specs.Doors.{patchTests}
+use Rattle.blobs.specs.Contracts.{patchTests}
 use Rattle.blobs.proofs.Refused.{refused-is, passes, sized}
 use Rattle.blobs.proofs.label_blobs.Statement.{statement}
 use Rattle.blobs.proofs.label_blobs.Tie as tie
@@ -28,7 +28,12 @@ returns c =
 label-requires : tie.Need-label-requires
 label-requires c κs =
     let a = c .before .before .before .before .before .before .before .before .before .args in
-    let p = passes (c .before .before .before .before .before .before .before .before .before .args .w) (c .before .before .before .before .before .before .before .before .before .args .h) (length (now (c .before .before .before .before .before .before .before .before .before .args .mask))) (length (now (c .before .before .before .before .before .before .before .before .before .args .seen))) (length (now (c .before .before .before .before .before .before .before .before .before .args .waiting))) (length (now (c .before .before .before .before .before .before .before .before .before .args .patches))) (sym (c .before .before .before .before .refusal .ensures) ∙ c .before .before .before .if1 .left) in
+    let p = passes (c .before .before .before .before .before .before .before .before .before .args .w) (c .before .before .before .before
+    .before .before .before .before .before .args .h) (length (now (c .before .before .before .before .before .before .before .before
+    .before .args .mask))) (length (now (c .before .before .before .before .before .before .before .before .before .args .seen)))
+    (length (now (c .before .before .before .before .before .before .before .before .before .args .waiting)))
+    (length (now (c .before .before .before .before .before .before .before .before .before .args .patches))) (sym (c .before .before
+    .before .before .refusal .ensures) ∙ c .before .before .before .if1 .left) in
     (sized (now (a .mask)) (a .w) (a .h) (p .0) (p .1), p .2, p .3, p .4)
 
 same-length : tie.Need-same-length
@@ -42,9 +47,25 @@ same-length-3 c = search needs
 
 returns-2 : tie.Need-returns-2
 returns-2 c =
-    let e : lowestOf (patchTests (c .before .before .before .before .before .before .before .before .before .before .before .before .before .before .before .before .args .w) (c .before .before .before .before .before .before .before .before .before .before .before .before .before .before .before .before .args .h) (length (now (c .before .before .before .before .before .before .before .before .before .before .before .before .before .before .before .before .args .mask))) (length (now (c .before .before .before .before .before .before .before .before .before .before .before .before .before .before .before .before .args .seen))) (length (now (c .before .before .before .before .before .before .before .before .before .before .before .before .before .before .before .before .args .waiting))) (length (now (c .before .before .before .before .before .before .before .before .before .before .before .before .before .before .before .before .args .patches)))) ≡ 0 = sym (c .before .before .before .before .before .before .before .before .before .before .before .refusal .ensures) ∙ c .before .before .before .before .before .before .before .before .before .before .if1 .left in
+    let e : lowestOf (patchTests (c .before .before .before .before .before .before .before .before .before .before .before .before .before
+    .before .before .before .args .w) (c .before .before .before .before .before .before .before .before .before .before .before .before
+    .before .before .before .before .args .h) (length (now (c .before .before .before .before .before .before .before .before .before
+    .before .before .before .before .before .before .before .args .mask))) (length (now (c .before .before .before .before .before
+    .before .before .before .before .before .before .before .before .before .before .before .args .seen)))
+    (length (now (c .before .before .before .before .before .before .before .before .before .before .before .before .before .before
+    .before .before .args .waiting))) (length (now (c .before .before .before .before .before .before .before .before .before .before
+    .before .before .before .before .before .before .args .patches)))) ≡ 0 = sym (c .before .before .before .before .before .before
+    .before .before .before .before .before .refusal .ensures) ∙ c .before .before .before .before .before .before .before .before
+    .before .before .if1 .left in
     record {
-      given = verdict-accepted (patchTests (c .before .before .before .before .before .before .before .before .before .before .before .before .before .before .before .before .args .w) (c .before .before .before .before .before .before .before .before .before .before .before .before .before .before .before .before .args .h) (length (now (c .before .before .before .before .before .before .before .before .before .before .before .before .before .before .before .before .args .mask))) (length (now (c .before .before .before .before .before .before .before .before .before .before .before .before .before .before .before .before .args .seen))) (length (now (c .before .before .before .before .before .before .before .before .before .before .before .before .before .before .before .before .args .waiting))) (length (now (c .before .before .before .before .before .before .before .before .before .before .before .before .before .before .before .before .args .patches)))) e;
+      given = verdict-accepted (patchTests (c .before .before .before .before .before .before .before .before .before .before .before
+          .before .before .before .before .before .args .w) (c .before .before .before .before .before .before .before .before .before
+          .before .before .before .before .before .before .before .args .h) (length (now (c .before .before .before .before .before .before
+          .before .before .before .before .before .before .before .before .before .before .args .mask)))
+          (length (now (c .before .before .before .before .before .before .before .before .before .before .before .before .before .before
+          .before .before .args .seen))) (length (now (c .before .before .before .before .before .before .before .before .before .before
+          .before .before .before .before .before .before .args .waiting))) (length (now (c .before .before .before .before .before .before
+          .before .before .before .before .before .before .before .before .before .before .args .patches)))) e;
       accepted = λ z. c .before .before .before .before .before .before .label .ensures;
       untouched = λ z. absurd (omega (arith, e));
     }

@@ -20,7 +20,8 @@ returns c =
     }
 
 look-requires : tie.Need-look-requires
-look-requires c κs = ready _ _ _ (sym (c .before .before .before .before .before .before .before .before .before .refused .ensures) ∙ c .before .before .before .before .before .before .before .before .if1 .left)
+look-requires c κs = ready _ _ _ (sym (c .before .before .before .before .before .before .before .before .before .refused .ensures)
+    ∙ c .before .before .before .before .before .before .before .before .if1 .left)
 
 -- where `look` has returned
 abbrev after : tie.After-slice-known16 → tie.After-look
@@ -52,7 +53,8 @@ same-length-8 c = after c .look .kept .1 .1 .1 .1 .1 .1 .1 .1 .1 .1 .1 .0
 
 returns-2 : tie.Need-returns-2
 returns-2 c =
-    let e = sym (after c .before .before .before .before .before .before .before .before .before .before .refused .ensures) ∙ after c .before .before .before .before .before .before .before .before .before .if1 .left in
+    let e = sym (after c .before .before .before .before .before .before .before .before .before .before .refused .ensures)
+    ∙ after c .before .before .before .before .before .before .before .before .before .if1 .left in
     record {
       given = verdict-accepted _ e;
       accepted = λ z. after c .look .ensures;

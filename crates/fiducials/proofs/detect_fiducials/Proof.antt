@@ -20,7 +20,8 @@ returns c =
     detection-refused _ _ _ _ _ _ _ (c .before .before .before .refused .ensures) n (verdict-refused _ n) (c .before .no-quad .ensures) (c .no-places .ensures)
 
 detect-requires : tie.Need-detect-requires
-detect-requires c κs = ready _ _ _ (sym (c .before .before .before .before .before .before .before .before .before .refused .ensures) ∙ c .before .before .before .before .before .before .before .before .if1 .left)
+detect-requires c κs = ready _ _ _ (sym (c .before .before .before .before .before .before .before .before .before .refused .ensures)
+    ∙ c .before .before .before .before .before .before .before .before .if1 .left)
 
 verdict-of-requires : tie.Need-verdict-of-requires
 verdict-of-requires c κs = tt
@@ -55,7 +56,9 @@ same-length-8 c = after c .detect .kept .1 .1 .1 .1 .1 .1 .1 .1 .1 .1 .1 .0
 
 returns-2 : tie.Need-returns-2
 returns-2 c =
-    detection-found _ _ _ _ _ _ _ _ _ _ _ (sym (after c .before .before .before .before .before .before .before .before .before .before .refused .ensures) ∙ after c .before .before .before .before .before .before .before .before .before .if1 .left) (after c .detect .ensures) (c .before .before .verdict-of .ensures)
+    detection-found _ _ _ _ _ _ _ _ _ _ _ (sym (after c .before .before .before .before .before .before .before .before .before .before
+    .refused .ensures) ∙ after c .before .before .before .before .before .before .before .before .before .if1 .left) (after c .detect
+    .ensures) (c .before .before .verdict-of .ensures)
 
 pub detect-fiducials-spec : {M : Type 1} → statement M
 detect-fiducials-spec =

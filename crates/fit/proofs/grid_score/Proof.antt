@@ -9,7 +9,7 @@ use Rattle.frame.specs.Refusals.{frameOutside, captureWrong, lowestOf}
 use Rattle.frame.proofs.Held.{frame-held, capture-held}
 use Rattle.frame.proofs.Lowest.{lowest-first, lowest-next, lowest-none}
 use Rattle.fit.proofs.Cases.{scored-refused, scored-is}
-use Rattle.fit.specs.Doors.{gridTests, meansShort, sampledCells}
+use Rattle.fit.specs.Contracts.{gridTests, meansShort, sampledCells}
 use native.Mathlib.Omega.{arith}
 use Prim.Native.Nat.{_≤_}
 use mathlib.Core.Path.{_≡_, refl, sym, _∙_}
@@ -67,21 +67,31 @@ grade-requires c κs =
     (capture-held _ d, frame-held _ e, length-take-le _ _ (omega arith) ∙ c .before .before .sampled-cells .ensures .0)
 
 same-length : tie.Need-same-length
-same-length c = lent-length (c .before .before .grade .last .1 .1 .1 .1 .1 .0) (c .before .before .before .before .before .before .before .before .before .before .before .before .args .means .now) (c .before .before .before .before .before .sampled-cells .result) (omega arith) (c .before .before .grade .kept .1 .1 .1 .1 .1 .0)
+same-length c = lent-length (c .before .before .grade .last .1 .1 .1 .1 .1 .0) (c .before .before .before .before .before .before .before
+    .before .before .before .before .before .args .means .now) (c .before .before .before .before .before .sampled-cells .result)
+    (omega arith) (c .before .before .grade .kept .1 .1 .1 .1 .1 .0)
 
 returns-4 : tie.Need-returns-4
 unfolding gridTests meansShort
 returns-4 c =
     let a = c .before .before .before .before .before .before .before .before .before .before .before .before .args in
     let n = c .before .before .before .before .before .sampled-cells .result in
-    let e : frameOutside (a .frame) ≡ false = sym (c .before .before .before .before .before .before .before .before .before .frame-outside .ensures) ∙ c .before .before .before .before .before .before .before .before .if1 .left in
-    let d : captureWrong (image (a .w) (a .h) (a .capture .now)) ≡ false = sym (c .before .before .before .before .before .before .before .capture-wrong .ensures) ∙ c .before .before .before .before .before .before .if2 .left in
+    let e : frameOutside (a .frame) ≡ false = sym (c .before .before .before .before .before .before .before .before .before .frame-outside
+    .ensures) ∙ c .before .before .before .before .before .before .before .before .if1 .left in
+    let d : captureWrong (image (a .w) (a .h) (a .capture .now)) ≡ false = sym (c .before .before .before .before .before .before .before
+    .capture-wrong .ensures) ∙ c .before .before .before .before .before .before .if2 .left in
     let h : n ≤ length (a .means .now) = omega arith in
-    let g : ltb (length (a .means .now)) (sampledCells (a .frame)) ≡ false = le-ltb (length (a .means .now)) (sampledCells (a .frame)) (omega (arith, c .before .before .before .before .before .sampled-cells .ensures .0)) in
+    let g : ltb (length (a .means .now)) (sampledCells (a .frame)) ≡ false = le-ltb (length (a .means .now)) (sampledCells (a .frame))
+    (omega (arith, c .before .before .before .before .before .sampled-cells .ensures .0)) in
     let z : lowestOf (gridTests (image (a .w) (a .h) (a .capture .now)) (a .frame) (a .means .now)) ≡ 0 = lowest-next 1 _ _ e ∙ lowest-next 2 _ _ d ∙ lowest-next 3 _ _ g ∙ lowest-none in
     record {
       given = scored-is _ z (c .before .before .grade .ensures);
-      means-rest = (lent-length (c .before .before .grade .last .1 .1 .1 .1 .1 .0) (a .means .now) n h (c .before .before .grade .kept .1 .1 .1 .1 .1 .0), lent-rest (c .before .before .grade .last .1 .1 .1 .1 .1 .0) (a .means .now) n _ h (c .before .before .grade .kept .1 .1 .1 .1 .1 .0) (c .before .before .before .before .before .sampled-cells .ensures .0));
+      means-rest = (
+        lent-length (c .before .before .grade .last .1 .1 .1 .1 .1 .0) (a .means .now) n h (c .before .before .grade .kept .1 .1
+            .1 .1 .1 .0),
+        lent-rest (c .before .before .grade .last .1 .1 .1 .1 .1 .0) (a .means .now) n _ h (c .before .before .grade .kept
+            .1 .1 .1 .1 .1 .0) (c .before .before .before .before .before .sampled-cells .ensures .0),
+      );
       untouched = λ u. absurd (omega (arith, z));
     }
 

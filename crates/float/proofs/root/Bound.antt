@@ -3,7 +3,9 @@ use mathlib.Core.Path.{_≡_, sym, ap, _∙_}
 use mathlib.Core.Logic.{_⊎_, inl, inr}
 use mathlib.Core.Bool.{Bool}
 use Prim.Native.Nat.{ℕ, zero, suc, _+_, _-_, _*_, _/_, _^_, _≤_, _<_}
-use native.Mathlib.Nat.{le-trans, le-of-eq, le-of-lt, lt-of-lt-of-le, lt-of-le-of-lt, lt-of-not-le, lt-irrefl, mul-one, one-mul, zero-mul, zero-div, div-one, mul-right-comm, mul-mul-mul-comm, mul-le-mul-right, mul-lt-mul-of-pos-right, lt-of-mul-lt-mul-right, mul-pos, mul-div-cancel, add-mul, eq-or-lt-of-le}
+use native.Mathlib.Nat.{le-trans, le-of-eq, le-of-lt, lt-of-lt-of-le, lt-of-le-of-lt, lt-of-not-le, lt-irrefl, mul-one, one-mul, zero-mul, zero-div, div-one}
+use native.Mathlib.Nat.{mul-right-comm, mul-mul-mul-comm, mul-le-mul-right, mul-lt-mul-of-pos-right, lt-of-mul-lt-mul-right, mul-pos, mul-div-cancel, add-mul}
+use native.Mathlib.Nat.{eq-or-lt-of-le}
 use native.Mathlib.Omega.{arith}
 use lib.IntN.{pos, negsuc}
 use lib.Dec.{T}
@@ -42,14 +44,22 @@ digits : (y : Float) → T (fits binary64 y) → T (finite y) → Digits (inUnit
 unfolding inUnits
 digits nan F N = absurd N
 digits (inf s) F N = absurd N
-digits (fin s zero e) F N = record { t = 0; j = 0; is = ap (λ (z : ℕ). z / down e) (ap (λ (z : ℕ). z * 2 ^ 1074) (zero-mul (up e)) ∙ zero-mul (2 ^ 1074)) ∙ zero-div (down e); few = omega arith }
+digits (fin s zero e) F N = record {
+  t = 0;
+  j = 0;
+  is = ap (λ (z : ℕ). z / down e) (ap (λ (z : ℕ). z * 2 ^ 1074) (zero-mul (up e))
+      ∙ zero-mul (2 ^ 1074)) ∙ zero-div (down e);
+  few = omega arith;
+}
 digits (fin s (suc m) (pos i)) F N = record { t = suc m; j = i + 1074; is = div-one (suc m * 2 ^ i * 2 ^ 1074) ∙ shift (suc m) i 1074; few = limits s m (pos i) F .digits }
 digits (fin s (suc m) (negsuc i)) F N =
     let l : suc i ≤ 1074 = pow-le-back (suc i) 1074 (limits s m (negsuc i) F .scale) in
     record {
       t = suc m;
       j = 1074 - suc i;
-      is = ap (λ (z : ℕ). z / 2 ^ suc i) (ap (λ (z : ℕ). suc m * 1 * 2 ^ z) (sym (back 1074 (suc i) l)) ∙ ap (λ (z : ℕ). z * 2 ^ (1074 - suc i + suc i)) (mul-one (suc m)) ∙ sym (shift (suc m) (1074 - suc i) (suc i))) ∙ shl-shr (suc m * 2 ^ (1074 - suc i)) (suc i);
+      is = ap (λ (z : ℕ). z / 2 ^ suc i) (ap (λ (z : ℕ). suc m * 1 * 2 ^ z) (sym (back 1074 (suc i) l))
+          ∙ ap (λ (z : ℕ). z * 2 ^ (1074 - suc i + suc i)) (mul-one (suc m)) ∙ sym (shift (suc m) (1074 - suc i) (suc i)))
+          ∙ shl-shr (suc m * 2 ^ (1074 - suc i)) (suc i);
       few = limits s m (negsuc i) F .digits;
     }
 
@@ -136,7 +146,8 @@ module _ (n q M a : ℕ) (P : 0 < M) where
           let m : (x + 1) * (x + 1) ≡ x * x + x * 2 + 1 = sq-next x in
           omega arith
 
-pub bound : (x r : Float) (n q k : ℕ) → inUnits 2148 x ≡ n * (2 ^ k * 2 ^ k) → inUnits 1074 r ≡ q * 2 ^ k → T (positive r) → 2 ^ 52 ≤ q → Nearest n q → (q ≡ 2 ^ 52 → q * q ≤ n) → NearestRoot x r
+pub bound : (x r : Float) (n q k : ℕ) → inUnits 2148 x ≡ n * (2 ^ k * 2 ^ k) → inUnits 1074 r ≡ q * 2 ^ k → T (positive r) → 2 ^ 52 ≤ q
+    → Nearest n q → (q ≡ 2 ^ 52 → q * q ≤ n) → NearestRoot x r
 bound x r n q k X R P lo near least = record {
   number = P;
   above = λ y F N h.

@@ -67,7 +67,8 @@ module _ (x : Float) (F : T (fits binary64 x)) (A : T (above x)) where
   B = toBits-lt binary64 x F
 
   value : Value (leb (2 ^ 63) b) (b % 2 ^ 63 / 2 ^ 52) (b % 2 ^ 52) x
-  value = subst (λ (y : Float). Value (leb (2 ^ 63) b) (b % 2 ^ 63 / 2 ^ 52) (b % 2 ^ 52) y) (ofBits-toBits binary64 x F) (read b (subst (λ (y : Float). T (not (isNan y))) (sym (ofBits-toBits binary64 x F)) (over-number x A)))
+  value = subst (λ (y : Float). Value (leb (2 ^ 63) b) (b % 2 ^ 63 / 2 ^ 52) (b % 2 ^ 52) y) (ofBits-toBits binary64 x F)
+      (read b (subst (λ (y : Float). T (not (isNan y))) (sym (ofBits-toBits binary64 x F)) (over-number x A)))
 
   clear : (a c : ℕ) → HasValue x (leb (2 ^ 63) b) a c → HasValue x false a c
   clear a c h = subst (λ (s : Bool). HasValue x s a c) (finite x (leb (2 ^ 63) b) a c A h .1) h
@@ -128,7 +129,8 @@ module _ (x : Float) (F : T (fits binary64 x)) (A : T (above x)) where
       let g = 1024 - z in
       let v = sub-value h in
       rooted (b * 2 ^ z) g (m .from) (m .to) (lo (leadingZeros 64 b) (m .j) (m .zeros)) (hi (leadingZeros 64 b)) x (finite x false (b * 1) (2 ^ 1074) A v .0)
-      (subst (λ (n : ℕ). HasValue x false n (2 ^ 2148)) (sym (shift b z (g + 50) ∙ ap (λ (k : ℕ). b * 2 ^ k) (sum (leadingZeros 64 b) (m .j) (m .zeros)) ∙ ap (λ (k : ℕ). k * 2 ^ 1074) (one b))) (scaled x false (b * 1) (2 ^ 1074) (2 ^ 1074) v))
+      (subst (λ (n : ℕ). HasValue x false n (2 ^ 2148)) (sym (shift b z (g + 50) ∙ ap (λ (k : ℕ). b * 2 ^ k) (sum (leadingZeros 64 b) (m .j)
+      (m .zeros)) ∙ ap (λ (k : ℕ). k * 2 ^ 1074) (one b))) (scaled x false (b * 1) (2 ^ 1074) (2 ^ 1074) v))
     where
       one : (y : ℕ) → y ≡ y * 1
       one y = omega arith

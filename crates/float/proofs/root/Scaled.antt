@@ -44,7 +44,10 @@ module _ (d g : ℕ) (lo : 2 ^ 52 ≤ d) (hi : d < 2 ^ 53) (g-lo : 900 ≤ g) (g
   a = d * 2 ^ (g % 2)
 
   a-in : (2 ^ 52 ≤ a) × (a < 2 ^ 54)
-  a-in = elim (one-or-two g) [ inl e ↦ subst (λ (z : ℕ). (2 ^ 52 ≤ d * 2 ^ z) × (d * 2 ^ z < 2 ^ 54)) (sym e) (omega arith, omega arith) | inr e ↦ subst (λ (z : ℕ). (2 ^ 52 ≤ d * 2 ^ z) × (d * 2 ^ z < 2 ^ 54)) (sym e) (omega arith, omega arith) ]
+  a-in = elim (one-or-two g) [
+    | inl e ↦ subst (λ (z : ℕ). (2 ^ 52 ≤ d * 2 ^ z) × (d * 2 ^ z < 2 ^ 54)) (sym e) (omega arith, omega arith)
+    | inr e ↦ subst (λ (z : ℕ). (2 ^ 52 ≤ d * 2 ^ z) × (d * 2 ^ z < 2 ^ 54)) (sym e) (omega arith, omega arith)
+  ]
 
   pub shl-is : a % 2 ^ 64 ≡ a
   shl-is = mod-eq-of-lt (lt-of-lt-of-le (a-in .1) (lit≤ tt))

@@ -37,7 +37,8 @@ isqrt-is (suc d) n h =
     quarter : (n p : ℕ) → n < p * 4 → n / 4 < p
     quarter n p h = omega arith
 
-    go : (s : ℕ) → s * s ≤ n / 4 → n / 4 < (s + 1) * (s + 1) → (b : Bool) → (T b → (s * 2 + 1) * (s * 2 + 1) ≤ n) → (T (not b) → n < (s * 2 + 1) * (s * 2 + 1)) → IsRoot n (cond b (s * 2 + 1) (s * 2))
+    go : (s : ℕ) → s * s ≤ n / 4 → n / 4 < (s + 1) * (s + 1) → (b : Bool) → (T b → (s * 2 + 1) * (s * 2 + 1) ≤ n) → (T (not b)
+        → n < (s * 2 + 1) * (s * 2 + 1)) → IsRoot n (cond b (s * 2 + 1) (s * 2))
     go s lo hi true h k =
         let a : (s + 1) * (s + 1) ≡ s * s + s * 2 + 1 = sq-next s in
         let b : (s * 2 + 1 + 1) * (s * 2 + 1 + 1) ≡ (s * 2 + 1) * (s * 2 + 1) + (s * 2 + 1) * 2 + 1 = sq-next (s * 2 + 1) in

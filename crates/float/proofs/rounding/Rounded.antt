@@ -3,7 +3,8 @@ use mathlib.Core.Path.{_≡_, refl, sym, ap, _∙_, subst}
 use mathlib.Core.Logic.{inl, inr}
 use mathlib.Core.Bool.{Bool, true, false, not, cond}
 use Prim.Native.Nat.{ℕ, zero, suc, _+_, _-_, _*_, _/_, _%_, _^_, _≤_, _<_}
-use native.Mathlib.Nat.{le-trans, le-of-eq, le-of-lt, lt-of-lt-of-le, lt-of-le-of-lt, mul-assoc, mul-one, one-mul, mul-comm, mul-right-comm, add-mul, div-eq-of-lt, mod-eq-of-lt, pow-suc, eq-of-mul-eq-mul-right}
+use native.Mathlib.Nat.{le-trans, le-of-eq, le-of-lt, lt-of-lt-of-le, lt-of-le-of-lt, mul-assoc, mul-one, one-mul, mul-comm, mul-right-comm, add-mul, div-eq-of-lt}
+use native.Mathlib.Nat.{mod-eq-of-lt, pow-suc, eq-of-mul-eq-mul-right}
 use native.Mathlib.Numerals.{add-one}
 use native.Mathlib.Omega.{arith}
 use lib.Dec.{T, leb, ltb, lit≤, lit<}
@@ -59,7 +60,8 @@ unfolding roundOf
 rounded-at nan s a c C h = absurd h
 rounded-at (inf t) s a c C h = absurd h
 rounded-at (fin t m e) s a c C h =
-    ap (λ (z : ℕ). round binary64 t z 1) (div-same (m * up e * 2 + down e) (down e * 2) (a * 2 + c) (c * 2) (double-pos (down e) (down-pos e)) (double-pos c C) (cross (m * up e) (down e) a c (h .1)))
+    ap (λ (z : ℕ). round binary64 t z 1) (div-same (m * up e * 2 + down e) (down e * 2) (a * 2 + c) (c * 2) (double-pos (down e)
+    (down-pos e)) (double-pos c C) (cross (m * up e) (down e) a c (h .1)))
     ∙ ap (λ (z : Bool). round binary64 z ((a * 2 + c) / (c * 2)) 1) (h .0)
 
 -- ---- with a fraction: j + h is 1073
@@ -209,7 +211,8 @@ module _ (x : Float) (F : T (fits binary64 x)) (N : T (not (isNan x))) where
           let u = d * 2 ^ (j - 1074) in
           let is : u * 2 ^ 1074 ≡ d * 2 ^ j = shift d (j - 1074) 1074 ∙ ap (λ (z : ℕ). d * 2 ^ z) (back e j lo k) in
           let mine : HasValue x s u 1 = one x s u (subst (λ (z : ℕ). HasValue x s z (2 ^ 1074)) (sym is) v) in
-          let theirs : HasValue (round binary64 s u 1) s u 1 = round-exact binary64 s u 1 d j (lit< tt) (digit-hi b) (lt-of-lt-of-le (shl-lt 53 j (digit-hi b)) (pow-mono (top b j k n))) (is ∙ sym (mul-one (d * 2 ^ j))) in
+          let theirs : HasValue (round binary64 s u 1) s u 1 = round-exact binary64 s u 1 d j (lit< tt) (digit-hi b) (lt-of-lt-of-le
+          (shl-lt 53 j (digit-hi b)) (pow-mono (top b j k n))) (is ∙ sym (mul-one (d * 2 ^ j))) in
           whole-unique binary64 x (round binary64 s u 1) s u F (round-fits binary64 s u 1) mine theirs
           ∙ ap (λ (z : ℕ). round binary64 s z 1) (sym (ap (λ (z : ℕ). (z * 2 + 2 ^ 1074) / (2 ^ 1074 * 2)) (sym is) ∙ whole-half u (2 ^ 1074) (pow-pos 1074)))
           ∙ sym (rounded-at x s (d * 2 ^ j) (2 ^ 1074) (pow-pos 1074) v)

@@ -85,7 +85,9 @@ module _ (x : Float) (F : T (fits binary64 x)) (N : T (not (isNan x))) where
 
   pub sign-bit : sign x ≡ leb (2 ^ 63) b
   sign-bit =
-      let v : Value (leb (2 ^ 63) b) (b % 2 ^ 63 / 2 ^ 52) (b % 2 ^ 52) x = subst (λ (y : Float). Value (leb (2 ^ 63) b) (b % 2 ^ 63 / 2 ^ 52) (b % 2 ^ 52) y) (ofBits-toBits binary64 x F) (read b (subst (λ (y : Float). T (not (isNan y))) (sym (ofBits-toBits binary64 x F)) N)) in
+      let v : Value (leb (2 ^ 63) b) (b % 2 ^ 63 / 2 ^ 52) (b % 2 ^ 52) x = subst (λ (y : Float). Value (leb (2 ^ 63) b) (b % 2 ^ 63 / 2 ^
+      52) (b % 2 ^ 52) y) (ofBits-toBits binary64 x F) (read b (subst (λ (y : Float). T (not (isNan y))) (sym (ofBits-toBits binary64 x
+      F)) N)) in
       elim v [
         | inl h ↦ sign-of x _ _ _ (h .1)
         | inr (inl h) ↦ sign-of x _ _ _ (h .3)

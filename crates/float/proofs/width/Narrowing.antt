@@ -54,7 +54,8 @@ module _ (d i : ℕ) (lo : 2 ^ 52 ≤ d) (hi : d < 2 ^ 53) where
 
   digits : size (d * 2 ^ (i + 896) * 2 ^ 149 / 2 ^ 1074) - 24 ≡ i
   digits =
-      let s : size (d * 2 ^ (i + 896) * 2 ^ 149 / 2 ^ 1074) ≡ suc (23 + i) = size-is (d * 2 ^ (i + 896) * 2 ^ 149 / 2 ^ 1074) (23 + i) (le-div-iff-mul-le (pow-pos 1074) .1 at-least) (div-lt-iff-lt-mul (pow-pos 1074) .1 at-most) in
+      let s : size (d * 2 ^ (i + 896) * 2 ^ 149 / 2 ^ 1074) ≡ suc (23 + i) = size-is (d * 2 ^ (i + 896) * 2 ^ 149 / 2 ^ 1074) (23 + i)
+      (le-div-iff-mul-le (pow-pos 1074) .1 at-least) (div-lt-iff-lt-mul (pow-pos 1074) .1 at-most) in
       omega arith
 
   cross : d * 2 ^ (i + 896) * 2 ^ 149 * 2 ^ 29 ≡ d * (2 ^ 1074 * 2 ^ i)
@@ -90,7 +91,11 @@ module _ (d i : ℕ) (lo : 2 ^ 52 ≤ d) (hi : d < 2 ^ 53) where
       split : (q i : ℕ) → q ≤ 2 ^ 24 → i < 254 → (q * 2 ^ i < 2 ^ 277) ⊎ ((q ≡ 2 ^ 24) × (i ≡ 253))
       split q i Q h =
           elim (eq-or-lt-of-le Q) [
-            | inl e ↦ elim (eq-or-lt-of-le (le i h)) [ inl z ↦ inr (e, z) | inr l ↦ inl (lt-of-le-of-lt (mul-le-mul-right (2 ^ i) Q) (lt-of-le-of-lt (le-of-eq (sym (pow-add 2 24 i))) (lt-of-le-of-lt (pow-mono (less i l)) (lit< tt)))) ]
+            | inl e ↦ elim (eq-or-lt-of-le (le i h)) [
+              | inl z ↦ inr (e, z)
+              | inr l ↦ inl (lt-of-le-of-lt (mul-le-mul-right (2 ^ i) Q)
+                  (lt-of-le-of-lt (le-of-eq (sym (pow-add 2 24 i))) (lt-of-le-of-lt (pow-mono (less i l)) (lit< tt))))
+            ]
             | inr l ↦ inl (lt-of-lt-of-le (shl-lt 24 i l) (pow-mono (small i h)))
           ]
         where
@@ -105,7 +110,8 @@ module _ (d i : ℕ) (lo : 2 ^ 52 ≤ d) (hi : d < 2 ^ 53) where
 
       carry : (closest d (2 ^ 29) ≡ 2 ^ 24) × (i ≡ 253) → toBits binary32 (units binary32 s (closest d (2 ^ 29)) i) ≡ cond s (2 ^ 31) 0 + (i * 2 ^ 23 + closest d (2 ^ 29))
       carry e =
-          ap (toBits binary32) (units-inf binary32 s (closest d (2 ^ 29)) i (subst (λ (z : ℕ). 2 ^ 277 ≤ z * 2 ^ i) (sym (e .0)) (subst (λ (z : ℕ). 2 ^ 277 ≤ 2 ^ 24 * 2 ^ z) (sym (e .1)) (lit≤ tt))))
+          ap (toBits binary32) (units-inf binary32 s (closest d (2 ^ 29)) i (subst (λ (z : ℕ). 2 ^ 277 ≤ z * 2 ^ i) (sym (e .0))
+          (subst (λ (z : ℕ). 2 ^ 277 ≤ 2 ^ 24 * 2 ^ z) (sym (e .1)) (lit≤ tt))))
           ∙ inf-pattern binary32 s
           ∙ ap (λ (z : ℕ). cond s (2 ^ 31) 0 + z) (sum i (closest d (2 ^ 29)) (e .1) (e .0))
         where
@@ -150,7 +156,8 @@ module _ (d j h : ℕ) (hi : d < 2 ^ 53) (J : j < 897) (H : j + suc h ≡ 925) w
 
   pub closest-low-le : 29 ≤ suc h → closest d (2 ^ suc h) ≤ 2 ^ 24
   closest-low-le g =
-      le-trans (closest-mono d (2 ^ suc h) d (2 ^ 29) (pow-pos (suc h)) (pow-pos 29) (le-trans (le-of-eq (mul-comm d (2 ^ 29))) (le-trans (mul-le-mul-right d (pow-mono g)) (le-of-eq (mul-comm (2 ^ suc h) d)))))
+      le-trans (closest-mono d (2 ^ suc h) d (2 ^ 29) (pow-pos (suc h)) (pow-pos 29) (le-trans (le-of-eq (mul-comm d (2 ^ 29)))
+      (le-trans (mul-le-mul-right d (pow-mono g)) (le-of-eq (mul-comm (2 ^ suc h) d)))))
       (le-trans (le-of-eq (closest-up d (2 ^ 28) (pow-pos 28))) (go d hi))
     where
       go : (d : ℕ) → d < 2 ^ 53 → (d + (2 ^ 28 - 1) + d / 2 ^ 29 % 2) / 2 ^ 29 ≤ 2 ^ 24

@@ -89,7 +89,8 @@ module _ (x : Float) (F : T (fits binary64 x)) (N : T (not (isNan x))) where
   B = toBits-lt binary64 x F
 
   value : Value (leb (2 ^ 63) b) (b % 2 ^ 63 / 2 ^ 52) (b % 2 ^ 52) x
-  value = subst (λ (y : Float). Value (leb (2 ^ 63) b) (b % 2 ^ 63 / 2 ^ 52) (b % 2 ^ 52) y) (ofBits-toBits binary64 x F) (read b (subst (λ (y : Float). T (not (isNan y))) (sym (ofBits-toBits binary64 x F)) N))
+  value = subst (λ (y : Float). Value (leb (2 ^ 63) b) (b % 2 ^ 63 / 2 ^ 52) (b % 2 ^ 52) y) (ofBits-toBits binary64 x F)
+      (read b (subst (λ (y : Float). T (not (isNan y))) (sym (ofBits-toBits binary64 x F)) N))
 
   -- from the pattern's magnitude
   to : (p : ℕ) → toBits binary32 (narrowed x) ≡ cond (leb (2 ^ 63) b) (2 ^ 31) 0 + p → Done x (b / 2 ^ 63 * 2 ^ 31 + p)
@@ -237,10 +238,12 @@ module _ (x : Float) (F : T (fits binary64 x)) (N : T (not (isNan x))) where
       go : (m : ℕ) → 872 * 2 ^ 52 ≤ m → 925 - m / 2 ^ 52 ≤ 53
       go m e = omega arith
 
-  pub in-coded : 872 * 2 ^ 52 ≤ b % 2 ^ 63 → b % 2 ^ 63 < 897 * 2 ^ 52 → Done x (b / 2 ^ 63 * 2 ^ 31 + (2 ^ 52 + b % 2 ^ 52 + (half - 1) + (2 ^ 52 + b % 2 ^ 52) / 2 ^ (cut + 1) % 2) / 2 ^ (cut + 1))
+  pub in-coded : 872 * 2 ^ 52 ≤ b % 2 ^ 63 → b % 2 ^ 63 < 897 * 2 ^ 52 → Done x (b / 2 ^ 63 * 2 ^ 31 + (2 ^ 52 + b % 2 ^ 52 + (half - 1) +
+      (2 ^ 52 + b % 2 ^ 52) / 2 ^ (cut + 1) % 2) / 2 ^ (cut + 1))
   in-coded lo hi =
       subst (λ (z : ℕ). Done x (b / 2 ^ 63 * 2 ^ 31 + (2 ^ 52 + b % 2 ^ 52 + (z - 1) + (2 ^ 52 + b % 2 ^ 52) / 2 ^ (cut + 1) % 2) / 2 ^ (cut + 1))) (sym (half-is lo))
-      (subst (λ (z : ℕ). Done x (b / 2 ^ 63 * 2 ^ 31 + (2 ^ 52 + b % 2 ^ 52 + (2 ^ cut - 1) + (2 ^ 52 + b % 2 ^ 52) / 2 ^ z % 2) / 2 ^ z)) (sym (add-one cut)) (in-subnormal cut (go (b % 2 ^ 63) hi) lo hi))
+      (subst (λ (z : ℕ). Done x (b / 2 ^ 63 * 2 ^ 31 + (2 ^ 52 + b % 2 ^ 52 + (2 ^ cut - 1) + (2 ^ 52 + b % 2 ^ 52) / 2 ^ z % 2) / 2 ^ z))
+      (sym (add-one cut)) (in-subnormal cut (go (b % 2 ^ 63) hi) lo hi))
     where
       go : (m : ℕ) → m < 897 * 2 ^ 52 → 925 - m / 2 ^ 52 + m / 2 ^ 52 ≡ 925
       go m e = omega arith

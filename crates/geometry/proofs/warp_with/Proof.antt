@@ -9,7 +9,7 @@ use borrow.Author.Tests.{eqb-true, not-false}
 use Rattle.frame.specs.Image.{image}
 use Rattle.frame.proofs.Lowest.{lowest-first, lowest-next, lowest-none}
 use Rattle.frame.proofs.Held.{frame-held, capture-held}
-use Rattle.geometry.specs.Doors.{warpTests, canonicalWrong}
+use Rattle.geometry.specs.Contracts.{warpTests, canonicalWrong}
 use Rattle.geometry.proofs.Given.{warping-refused, warping-accepted}
 use Rattle.geometry.proofs.warp_with.Statement.{statement}
 use Rattle.geometry.proofs.warp_with.Tie as tie

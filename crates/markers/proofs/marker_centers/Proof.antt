@@ -1,7 +1,7 @@
 -- `markers::marker_centers` meets its contract. Assumes nothing.
 use mathlib.Core.Path.{ap, _∙_}
 use borrow.Author.Needs.{needs}
-use Rattle.markers.specs.Doors.{layoutTests}
+use Rattle.markers.specs.Contracts.{layoutTests}
 use Rattle.frame.proofs.Lowest.{lowest-first, lowest-next, lowest-none}
 use Rattle.frame.proofs.Held.{frame-held}
 use Rattle.markers.specs.declared.Centers.the-variants as C

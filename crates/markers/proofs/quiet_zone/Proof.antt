@@ -3,7 +3,7 @@ use mathlib.Core.Bool.{not}
 use mathlib.Core.Path.{sym, ap, _∙_}
 use borrow.Author.Tests.{not-false}
 use borrow.Author.Needs.{needs}
-use Rattle.markers.specs.Doors.{cellTests}
+use Rattle.markers.specs.Contracts.{cellTests}
 use Rattle.frame.proofs.Lowest.{lowest-first, lowest-next, lowest-none}
 use Rattle.frame.proofs.Given.{number-refused, number-accepted}
 use Rattle.frame.proofs.Held.{cell-most}

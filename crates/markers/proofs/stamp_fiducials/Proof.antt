@@ -8,7 +8,7 @@ use Rattle.frame.specs.Image.{image}
 use Rattle.frame.proofs.Lowest.{lowest-first, lowest-next, lowest-none}
 use Rattle.frame.proofs.Held.{frame-held, capture-held}
 use Rattle.base.proofs.Floats.{held64}
-use Rattle.markers.specs.Doors.{stampTests}
+use Rattle.markers.specs.Contracts.{stampTests}
 use Rattle.markers.specs.Stamp.{stamped, squares, bullseyes, withSquares}
 use Rattle.markers.proofs.Given.{stamping-refused, stamping-accepted}
 use Rattle.markers.proofs.Sizes.{quiet-most, layout-none, layout-some, layout-values}
@@ -42,14 +42,16 @@ enum-known-layout : tie.Need-enum-known-layout
 enum-known-layout c = search needs
 
 quiet-zone-requires : tie.Need-quiet-zone-requires
-quiet-zone-requires c κs = frame-held _ (sym (c .before .before .before .before .before .before .before .before .frame-outside .ensures) ∙ c .before .before .before .before .before .before .before .if1 .left) .cell-most
+quiet-zone-requires c κs = frame-held _ (sym (c .before .before .before .before .before .before .before .before .frame-outside .ensures)
+    ∙ c .before .before .before .before .before .before .before .if1 .left) .cell-most
 
 int-to-float-q : tie.Need-int-to-float-q
 int-to-float-q c = held64 _ (omega (arith, quiet-most (c .before .before .before .before .before .before .before .before .before .before .before .before .args .frame .cell)))
 
 stamp-markers-requires : tie.Need-stamp-markers-requires
 stamp-markers-requires c κs =
-    let k = capture-held (image _ _ _) (sym (c .before .before .before .before .before .before .before .before .capture-wrong .ensures) ∙ c .before .before .before .before .before .before .before .if2 .left) in
+    let k = capture-held (image _ _ _) (sym (c .before .before .before .before .before .before .before .before .capture-wrong .ensures)
+    ∙ c .before .before .before .before .before .before .before .if2 .left) in
     (k .w-most, k .h-most, k .bytes-held)
 
 same-length-2 : tie.Need-same-length-2
@@ -72,13 +74,18 @@ returns-4 c =
     let a = c .before .before .before .before .before .before .before .before .before .before .before .before .before .before .before .before .args in
     let e = sym (c .before .before .before .before .before .before .before .before .before .marker-layout .ensures) ∙ c .before .before .before .before .before .before .before .layout .given .1 in
     stamping-accepted (image (a .w) (a .h) _) (a .frame) _
-    (lowest-next 1 _ _ (sym (c .before .before .before .before .before .before .before .before .before .before .before .before .before .before .frame-outside .ensures) ∙ c .before .before .before .before .before .before .before .before .before .before .before .before .before .if1 .left)
-    ∙ lowest-next 2 _ _ (sym (c .before .before .before .before .before .before .before .before .before .before .before .capture-wrong .ensures) ∙ c .before .before .before .before .before .before .before .before .before .before .if2 .left)
+    (lowest-next 1 _ _ (sym (c .before .before .before .before .before .before .before .before .before .before .before .before .before
+    .before .frame-outside .ensures) ∙ c .before .before .before .before .before .before .before .before .before .before .before .before
+    .before .if1 .left)
+    ∙ lowest-next 2 _ _ (sym (c .before .before .before .before .before .before .before .before .before .before .before .capture-wrong
+    .ensures) ∙ c .before .before .before .before .before .before .before .before .before .before .if2 .left)
     ∙ lowest-next 5 _ _ (layout-some _ _ e)
     ∙ lowest-none)
     (c .before .before .stamp-markers .ensures
-    ∙ ap (λ k. withSquares (bullseyes (k .m) (f64 (c .before .before .before .before .before .quiet-zone .result)) (k .origins)) (image (a .w) (a .h) (a .bytes .now))) (layout-values (a .frame) _ e)
-    ∙ ap (λ n. withSquares (bullseyes (f64 (marker (a .frame))) (f64 n) (origins (a .frame))) (image (a .w) (a .h) (a .bytes .now))) (c .before .before .before .before .before .quiet-zone .ensures))
+    ∙ ap (λ k. withSquares (bullseyes (k .m) (f64 (c .before .before .before .before .before .quiet-zone .result)) (k .origins))
+    (image (a .w) (a .h) (a .bytes .now))) (layout-values (a .frame) _ e)
+    ∙ ap (λ n. withSquares (bullseyes (f64 (marker (a .frame))) (f64 n) (origins (a .frame))) (image (a .w) (a .h) (a .bytes .now)))
+    (c .before .before .before .before .before .quiet-zone .ensures))
 
 pub stamp-fiducials-spec : {M : Type 1} → statement M
 stamp-fiducials-spec =

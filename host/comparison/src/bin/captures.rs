@@ -3,7 +3,7 @@
 //!              ring-shaped blob of the payload among the first 256; 1.cap: the same without the lower right ring
 //!   path       three captures: 0.cap accepted (192,192,1,48), 1.cap refused by 7, 2.cap refused by 9
 //!   replay     a sample of every kind
-//!   all        these three in turn: data/ and stdout of the program crate replay
+//!   all        these three in turn: data/ and stdout of the program crate test_geometry
 //!
 //! Each capture is DIR/N.cap: six 64-bit words, little-endian (w, h, and the frame's width, height, cell, margin), then its
 //! 3·w·h bytes. `captures -j SET FILE` puts the same captures into one file instead: one word, their number, then one after the

@@ -1,5 +1,5 @@
-// Vectors for the program crate corner_examples: pictures of rectangles, and what the original finds in them.
-// In host/vectors: `cargo run --release --offline --bin corners` writes crates/corner_examples/stdin and stdout again.
+// Vectors for the program crate test_fiducials: pictures of rectangles, and what the original finds in them.
+// In host/vectors: `cargo run --release --offline --bin corners` writes crates/test_fiducials/stdin and stdout again.
 //
 // stdin: the number of pictures, a byte; for each its width, height and number of rectangles, a byte each, and five bytes a
 // rectangle: x, y, width, height and grey level, drawn in order on white. Then quadrilaterals, eight f64 patterns each, the
@@ -282,5 +282,5 @@ fn main() {
         input.extend(q.iter().flatten().flat_map(|v| v.to_bits().to_le_bytes()));
         writeln!(out, "{} {}", agree(&q) as u8, small(&q, 640, 480) as u8).unwrap();
     }
-    vectors::write("corner_examples", &input, &out);
+    vectors::write("test_fiducials", &input, &out);
 }

@@ -1,15 +1,15 @@
-// Vectors for the program crates grid_examples (fit_for, grid_score) and fit_examples (fit_geometry): the original's
+// Vectors for the program crates test_fit (fit_for, grid_score) and test_fit_geometry (fit_geometry): the original's
 // own answers, as bit patterns. In host/vectors: `cargo run --release --offline --bin fit` writes stdin and stdout of
 // both again.
 //
-// grid_examples: stdin is records of 24 words of 64 bits, lowest byte first: what is asked (0 fit_for, 1 grid_score),
+// test_fit: stdin is records of 24 words of 64 bits, lowest byte first: what is asked (0 fit_for, 1 grid_score),
 // w, h, the frame's width, height, cell and margin, and then for fit_for the four points and k, for grid_score the
 // matrix, the lens (k, cx, cy, norm), how many bytes of the capture are lent and how many means. A record that begins
 // with 2 has in its second word how many bytes stand behind it: the capture from then on. stdout has the answers' words, one a line, in hexadecimal: the refusal's number, or 0
 // and, for fit_for, matrix and lens; for grid_score the original's float, then 0 for a score, 1 for outside with the
 // cell, 2 for too few cells.
 //
-// fit_examples: stdin is records of 8 words (w, h, the frame, the capture's length in bytes, the length of the area of
+// test_fit_geometry: stdin is records of 8 words (w, h, the frame, the capture's length in bytes, the length of the area of
 // means) with the capture behind them. stdout has the refusal's number; after 7 the numbers of patches and candidates;
 // after 0 those, then the four places in the patch list, matrix, lens, the kept trial's score, and the counts of
 // trials and of homographies. Every NaN is written as one. The original has no refusal numbers: they are document 01's.
@@ -23,7 +23,7 @@ use vectors::pictures::{card, frame, frame_held, frame_words, noise, outside, ph
 use vectors::stages::searched;
 use vectors::{Random, Vectors};
 
-// ---- grid_examples
+// ---- test_fit
 
 fn ask_fit_for(v: &mut Vectors, w: usize, h: usize, f: &FrameSpec, points: &[[f64; 2]; 4], k: f64) {
     let mut words = vec![0, w as u64, h as u64];
@@ -148,7 +148,7 @@ fn grid_vectors() -> Vectors {
     v
 }
 
-// ---- fit_examples
+// ---- test_fit_geometry
 
 // How many trials have a homography; the search by the original's parts ends where fit_geometry does.
 fn homographies(img: &RgbImage, f: &FrameSpec) -> u64 {
@@ -239,6 +239,6 @@ fn fit_vectors() -> Vectors {
 }
 
 fn main() {
-    grid_vectors().write("grid_examples");
-    fit_vectors().write("fit_examples");
+    grid_vectors().write("test_fit");
+    fit_vectors().write("test_fit_geometry");
 }

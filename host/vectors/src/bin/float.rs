@@ -1,5 +1,5 @@
-// Vectors for the program crate float_vectors: inputs of each float helper with Rust's own answers, as bit patterns.
-// In host/vectors: `cargo run --release --offline --bin float` writes crates/float_vectors/stdin and stdout again.
+// Vectors for the program crate test_float: inputs of each float helper with Rust's own answers, as bit patterns.
+// In host/vectors: `cargo run --release --offline --bin float` writes crates/test_float/stdin and stdout again.
 //
 // stdin is 64-bit words, lowest byte first: how many vectors each helper has, ten words in the order of HELPERS, and
 // then the vectors of each helper, its arguments and the answer. A NaN answer is written 0x7ff8000000000000, or
@@ -198,6 +198,6 @@ fn main() {
     let bytes: Vec<u8> = words.iter().flat_map(|w| w.to_le_bytes()).collect();
     assert!(bytes.len() <= 65536, "the program reads 65,536 bytes: {}", bytes.len());
     let counts: String = helpers.iter().map(|(name, v)| format!("{name} {}\n", v.len())).collect();
-    vectors::write("float_vectors", &bytes, &counts);
+    vectors::write("test_float", &bytes, &counts);
     print!("{counts}");
 }

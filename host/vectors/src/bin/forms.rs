@@ -1,6 +1,6 @@
-//! Input and output of the program `forms_examples`. In host/vectors, after host/oracle/prepare:
+//! Input and output of the program `test_records`. In host/vectors, after host/oracle/prepare:
 //!   CARGO_TARGET_DIR=../target cargo run --release --offline --bin forms
-//! writes crates/forms_examples/{stdin,stdout}. The patch list is that of the original's `label_blobs` on document 01's
+//! writes crates/test_records/{stdin,stdout}. The patch list is that of the original's `label_blobs` on document 01's
 //! mask M7. The colours are those of its `px`; the four lines after them, places and sizes that the original panics at,
 //! are document 01's refusal 2 and the port's answer for a pixel outside the picture. The candidates are those of its
 //! `fiducial_candidates`: centre, score and size by their bits, and the place of the patch.
@@ -56,5 +56,5 @@ fn main() {
         out += &format!("{place}\n");
     }
 
-    vectors::write("forms_examples", &input, &out);
+    vectors::write("test_records", &input, &out);
 }

@@ -1,5 +1,5 @@
-// Vectors for the program crate homography_vectors: the original's own answers, as bit patterns.
-// In host/vectors: `cargo run --release --offline --bin homography` writes crates/homography_vectors/stdin and stdout again.
+// Vectors for the program crate test_homography: the original's own answers, as bit patterns.
+// In host/vectors: `cargo run --release --offline --bin homography` writes crates/test_homography/stdin and stdout again.
 //
 // stdin is records of 19 words of 64 bits, lowest byte first: what is asked (0 from_points, 1 inverse, 2 apply,
 // 3 mat3_mul, 4 rms_error), then its arguments, and zeros. stdout has the answer's words, one a line, in hexadecimal:
@@ -277,6 +277,6 @@ fn main() {
     applied(&mut v, &mut r);
     products(&mut v, &mut r);
     errors(&mut v, &mut r);
-    v.words.write("homography_vectors");
+    v.words.write("test_homography");
     println!("from_points, inverse, apply, mat3_mul, rms_error: {:?}", v.counts);
 }

@@ -1,8 +1,8 @@
-// Vectors of crates/marker_examples: the records that it reads, and the lines that it is to print, by
+// Vectors of crates/test_markers: the records that it reads, and the lines that it is to print, by
 // the original. Refusals 1 and 2 are document 01's limits, which the original lacks; 5 is where the
 // original says None or false. In this folder:
 //     cargo run --release --offline --bin markers
-// writes stdin and stdout of ../../crates/marker_examples.
+// writes stdin and stdout of ../../crates/test_markers.
 use lpcore::frame::FrameSpec;
 use lpcore::geometry::{
     frame_spec, margin_for, marker_centers, marker_size, quiet_zone, stamp_fiducials, MARKER_MAX_PX, MARKER_MIN_PX, MARKER_UNITS,
@@ -225,5 +225,5 @@ fn main() {
     for f in limits() {
         out.stamp(30, 40, 3600, f, none);
     }
-    vectors::write("marker_examples", &out.records, &out.lines);
+    vectors::write("test_markers", &out.records, &out.lines);
 }

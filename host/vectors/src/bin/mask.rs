@@ -1,5 +1,5 @@
-// Vectors for the program crate mask_examples: a picture of 40 by 36, and the original's luma, integral and mask.
-// In host/vectors: `cargo run --release --offline --bin mask` writes crates/mask_examples/stdin and stdout again.
+// Vectors for the program crate test_mask: a picture of 40 by 36, and the original's luma, integral and mask.
+// In host/vectors: `cargo run --release --offline --bin mask` writes crates/test_mask/stdin and stdout again.
 //
 // stdin is the picture's bytes. stdout has the luma as f32 patterns, the integral's last row as f64 patterns and the mask
 // as `#` (dark) and `.`, for the frame 192, 192, 1, 48, where m is 24 and marker_size 72. The program lends each area
@@ -60,7 +60,7 @@ fn main() {
     }
     output += "77777777\n";
     let dark = mask.iter().filter(|d| **d).count();
-    vectors::write("mask_examples", &img.data, &output);
+    vectors::write("test_mask", &img.data, &output);
     println!("radius {radius}, {dark} of {} dark", mask.len());
     for wrong in [radius - 1, radius + 1] {
         let other = adaptive_black_mask(&luma, W, H, wrong, 8.0);

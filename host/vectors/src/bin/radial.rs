@@ -1,5 +1,5 @@
-// Vectors for the program crate radial_vectors: the original's own answers, as bit patterns.
-// In host/vectors: `cargo run --release --offline --bin radial` writes crates/radial_vectors/stdin and stdout again.
+// Vectors for the program crate test_radial: the original's own answers, as bit patterns.
+// In host/vectors: `cargo run --release --offline --bin radial` writes crates/test_radial/stdin and stdout again.
 //
 // stdin is records of 7 words of 64 bits, lowest byte first: what is asked (0 new, 1 distort, 2 undistort), then its
 // arguments (w, h, k; or k, cx, cy, norm, x, y), and zeros. stdout has the answer's words, one a line, in hexadecimal:
@@ -117,6 +117,6 @@ fn main() {
         }
         v.both(Radial { k: a[0], cx: a[1], cy: a[2], norm: a[3] }, [a[4], a[5]]);
     }
-    v.words.write("radial_vectors");
+    v.words.write("test_radial");
     println!("new, distort, undistort: {:?}", v.counts);
 }

@@ -1,5 +1,5 @@
-// Vectors for the program crate sampling_examples: places in a small picture, and the original's `bilinear` there.
-// In host/vectors: `cargo run --release --offline --bin sampling` writes crates/sampling_examples/stdin and stdout again.
+// Vectors for the program crate test_sampling: places in a small picture, and the original's `bilinear` there.
+// In host/vectors: `cargo run --release --offline --bin sampling` writes crates/test_sampling/stdin and stdout again.
 //
 // stdin is the 60 bytes of a picture of 5 by 4, four bytes of padding, and then the places, two 64-bit words each, lowest
 // byte first: the patterns of x and y. stdout begins with what the program asks by itself: document 01's example, 0 and
@@ -99,6 +99,6 @@ fn main() {
         input.extend(y.to_bits().to_le_bytes());
         output += &line(bilinear(&img, x, y));
     }
-    vectors::write("sampling_examples", &input, &output);
+    vectors::write("test_sampling", &input, &output);
     println!("{} lines", output.lines().count());
 }

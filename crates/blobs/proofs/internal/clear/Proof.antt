@@ -43,7 +43,8 @@ returns c =
     let l = c .before .loop in
     let s₀ = now (c .before .before .args .seen) in
     let e : l .i ≡ length s₀ = omega (arith, l .inv .1, l .inv .2, c .loop-test .left) in
-    l .inv .0 ∙ ap (λ n. replicate n 0 ++ drop n s₀) e ∙ ap (λ x. replicate (length s₀) 0 ++ x) (drop-of-length-le s₀ {i = length s₀} (omega arith)) ∙ append-none (replicate (length s₀) 0)
+    l .inv .0 ∙ ap (λ n. replicate n 0 ++ drop n s₀) e ∙ ap (λ x. replicate (length s₀) 0 ++ x) (drop-of-length-le s₀ {i = length s₀}
+    (omega arith)) ∙ append-none (replicate (length s₀) 0)
 
 pub clear-spec : {M : Type 1} → statement M
 clear-spec =

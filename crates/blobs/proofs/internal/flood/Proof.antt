@@ -11,18 +11,18 @@ use lib.ListN.{length-set}
 use Rattle.base.specs.Loops.{turns}
 use Rattle.base.proofs.Turns.{turns-begin, turns-step, turns-end}
 use Rattle.blobs.specs.Patches.{PatchOf}
-use Rattle.blobs.specs.Stack.{marking, stackOf, Flooding, flooding, begun, turn, flood}
+use Rattle.blobs.specs.Stack.{marking, stackOf, Flooding, flooding, begun, floodStep, flood}
 use Rattle.blobs.specs.Ready.{Held}
 use Rattle.blobs.proofs.Steps.{Waits, newest}
 use Rattle.blobs.proofs.Floods.{Progress, progress-turns, progress-area, progress-sx, progress-sy, held-pop, pixel-at, flood-does}
-use Rattle.blobs.proofs.Stacks.{length-stack, stack-pop, stack-none, begun-is, turn-is, grow-area, flood-is, no-blob-area}
+use Rattle.blobs.proofs.Stacks.{length-stack, stack-pop, stack-none, begun-is, floodStep-is, grow-area, flood-is, no-blob-area}
 use Rattle.blobs.proofs.internal.flood.Statement.{statement}
 use Rattle.blobs.proofs.internal.flood.Tie as tie
 
 -- as many turns are done as pixels are counted
 abbrev Inv-loop : tie.InvT-loop
 Inv-loop mask seen₀ waiting₀ w a blob₀ top₀ deep₀ seen waiting blob top deep =
-    (flooding seen (stackOf waiting top) blob deep ≡ turns (blob .area) (turn mask w) (flooding seen₀ (stackOf waiting₀ top₀) blob₀ deep₀)) × (length waiting ≡ length waiting₀)
+    (flooding seen (stackOf waiting top) blob deep ≡ turns (blob .area) (floodStep mask w) (flooding seen₀ (stackOf waiting₀ top₀) blob₀ deep₀)) × (length waiting ≡ length waiting₀)
 
 abbrev μ-loop : tie.MeasureT-loop
 μ-loop mask seen₀ waiting₀ w a blob₀ top₀ deep₀ seen waiting blob top deep = length mask - blob .area
@@ -33,13 +33,18 @@ now-flooding c = flooding (c .loop .seen) (stackOf (c .loop .waiting) (c .loop .
 waiting-some : (c : tie.After-no-blob Inv-loop μ-loop) → 0 < length (now (c .before .before .before .before .args .waiting))
 waiting-some c = let g = c .before .before .before .before .pre in omega (arith, g .0 .pixel .inside, g .1)
 
-state : (c : tie.At-loop Inv-loop μ-loop) → now-flooding c ≡ turns (c .loop .blob .area) (turn (now (c .before .before .before .before .before .args .mask)) (c .before .before .before .before .before .args .w)) (begun (c .before .before .before .before .before .args .w) (c .before .before .before .before .before .args .a) (now (c .before .before .before .before .before .args .seen)))
+state : (c : tie.At-loop Inv-loop μ-loop) → now-flooding c ≡ turns (c .loop .blob .area) (floodStep (now (c .before .before .before .before
+    .before .args .mask)) (c .before .before .before .before .before .args .w)) (begun (c .before .before .before .before .before .args .w)
+    (c .before .before .before .before .before .args .a) (now (c .before .before .before .before .before .args .seen)))
 state c =
     let s = c .before .before .before .before .before .args in
     c .loop .inv .0
-    ∙ ap (turns (c .loop .blob .area) (turn (now (s .mask)) (s .w))) (begun-is (now (s .seen)) (now (s .waiting)) (s .w) (s .a) (c .before .no-blob .result) (waiting-some (c .before)) (c .before .no-blob .ensures))
+    ∙ ap (turns (c .loop .blob .area) (floodStep (now (s .mask)) (s .w))) (begun-is (now (s .seen)) (now (s .waiting)) (s .w) (s .a)
+    (c .before .no-blob .result) (waiting-some (c .before)) (c .before .no-blob .ensures))
 
-progress : (c : tie.At-loop Inv-loop μ-loop) → Progress (now (c .before .before .before .before .before .args .mask)) (c .before .before .before .before .before .args .w) (c .before .before .before .before .before .args .a) (now (c .before .before .before .before .before .args .seen)) (now-flooding c)
+progress : (c : tie.At-loop Inv-loop μ-loop) → Progress (now (c .before .before .before .before .before .args .mask)) (c .before .before
+    .before .before .before .args .w) (c .before .before .before .before .before .args .a) (now (c .before .before .before .before .before
+    .args .seen)) (now-flooding c)
 progress c =
     let s = c .before .before .before .before .before in
     subst (Progress (now (s .args .mask)) (s .args .w) (s .args .a) (now (s .args .seen))) (sym (state c)) (progress-turns (s .pre .0) (c .loop .blob .area))
@@ -49,7 +54,8 @@ counted : (c : tie.At-loop Inv-loop μ-loop) → c .loop .blob .area + c .loop .
 counted c = omega (arith, progress-area (progress c), length-stack (c .loop .waiting) (c .loop .top))
 
 long : (c : tie.At-loop Inv-loop μ-loop) → length (c .loop .waiting) ≡ length (now (c .before .before .before .before .before .args .mask))
-long c = c .loop .inv .1 ∙ length-set (now (c .before .before .before .before .before .args .waiting)) 0 (c .before .before .before .before .before .args .a) ∙ c .before .before .before .before .before .pre .1
+long c = c .loop .inv .1 ∙ length-set (now (c .before .before .before .before .before .args .waiting)) 0 (c .before .before .before .before
+    .before .args .a) ∙ c .before .before .before .before .before .pre .1
 
 no-blob-requires : tie.Need-no-blob-requires Inv-loop μ-loop
 no-blob-requires c κs = c .before .before .before .pre .0 .pixel .wide
@@ -69,8 +75,11 @@ slice-write-waiting c = waiting-some c
 
 loop-holds : tie.Need-loop-holds Inv-loop μ-loop
 loop-holds c =
-    let s = c .before .before .before .before .args in
-    (turns-end (turn (now (s .mask)) (s .w)) _ 0 (c .no-blob .result .area) (turns-begin (turn (now (s .mask)) (s .w)) _) (no-blob-area (s .w) (s .a) (c .no-blob .result) (c .no-blob .ensures)), refl)
+    let s = c .before .before .before .before .args in (
+      turns-end (floodStep (now (s .mask)) (s .w)) _ 0 (c .no-blob .result .area) (turns-begin (floodStep (now (s .mask)) (s .w)) _)
+          (no-blob-area (s .w) (s .a) (c .no-blob .result) (c .no-blob .ensures)),
+      refl,
+    )
 
 sub-low : tie.Need-sub-low Inv-loop μ-loop
 sub-low c = omega (arith, c .loop-test .taken)
@@ -95,7 +104,18 @@ grow-requires c κs =
     let g = c .before .before .before .before .before .before .before .pre .0 .pixel in
     let v = progress (c .before .before) in
     let p = getD (c .before .before .loop .waiting) (c .before .before .loop .top - 1) 0 in
-    omega (arith, progress-area v, progress-sx g v, progress-sy g v, g .small, g .narrow, mod-lt p (g .wide), div-le-self p (c .before .before .before .before .before .before .before .args .w), c .slice-known3 .given (c .before .before .loop .top - 1))
+    omega (
+      arith,
+      progress-area v,
+      progress-sx g v,
+      progress-sy g v,
+      g .small,
+      g .narrow,
+      mod-lt p (g .wide),
+      div-le-self p
+          (c .before .before .before .before .before .before .before .args .w),
+      c .slice-known3 .given (c .before .before .loop .top - 1),
+    )
 
 spread-requires : tie.Need-spread-requires Inv-loop μ-loop
 spread-requires c κs =
@@ -104,14 +124,31 @@ spread-requires c κs =
     let v = progress (c .before .before .before .before .before) in
     let low = l .top - 1 in
     let e : l .top ≡ low + 1 = omega (arith, c .before .before .before .before .loop-test .taken) in
-    let j = v .stacked (getD (l .waiting) low 0) (subst (Waits (getD (l .waiting) low 0)) (sym (stack-pop (l .waiting) (l .top) low e)) (newest refl)) in
-    (record { held = held-pop (subst (λ k. Held (now (s .args .mask)) (marking (l .seen) k)) (stack-pop (l .waiting) (l .top) low e) (v .held)); long = long (c .before .before .before .before .before) }, (pixel-at (getD (l .waiting) low 0) (s .pre .0 .pixel) j, refl))
+    let j = v .stacked (getD (l .waiting) low 0) (subst (Waits (getD (l .waiting) low 0)) (sym (stack-pop (l .waiting) (l .top) low e)) (newest refl)) in (
+      record {
+        held = held-pop (subst (λ k. Held (now (s .args .mask)) (marking (l .seen) k)) (stack-pop (l .waiting) (l .top) low e)
+            (v .held));
+        long = long (c .before .before .before .before .before);
+      },
+      (
+        pixel-at (getD (l .waiting) low 0) (s .pre .0 .pixel) j,
+        refl,
+      ),
+    )
 
 most-requires : tie.Need-most-requires Inv-loop μ-loop
 most-requires c κs = search needs
 
 loop-less : tie.Need-loop-less Inv-loop μ-loop
-loop-less c = omega (arith, counted (c .before .before .before .before .before .before .before .before .before .before .before), c .before .before .before .before .before .before .before .before .before .before .loop-test .taken, grow-area (c .before .before .before .before .before .before .before .before .before .before .before .loop .blob) (c .before .before .before .before .before .before .before .before .grow .result) _ _ (c .before .before .before .before .before .before .before .before .grow .ensures))
+loop-less c = omega (
+  arith,
+  counted (c .before .before .before .before .before .before .before .before .before .before .before),
+  c .before
+      .before .before .before .before .before .before .before .before .before .loop-test .taken,
+  grow-area (c .before .before .before .before
+      .before .before .before .before .before .before .before .loop .blob) (c .before .before .before .before .before .before .before .before
+      .grow .result) _ _ (c .before .before .before .before .before .before .before .before .grow .ensures),
+)
 
 loop-again : tie.Need-loop-again Inv-loop μ-loop
 loop-again c =
@@ -121,10 +158,16 @@ loop-again c =
     let v = c .before .before .before .before .before .spread in
     let g = c .before .before .before .before .before .before .before .before .grow in
     let m = now (s .mask) in
-    let f₀ = flooding (set (now (s .seen)) (s .a) 1) (stackOf (set (now (s .waiting)) 0 (s .a)) 1) (c .before .before .before .before .before .before .before .before .before .before .before .before .no-blob .result) 1 in (
-      turn-is m (s .w) (l .blob .area) (l .seen) (l .waiting) (l .top) (l .blob) (l .deep) (v .last .1 .0) (v .last .1 .1 .0) (v .result) (g .result) (c .most .result) low (omega (arith, c .before .before .before .before .before .before .before .before .before .before .loop-test .taken)) (v .ensures) (g .ensures) (c .most .ensures)
-          ∙ turns-step (turn m (s .w)) f₀ (l .blob .area) (l .inv .0)
-          ∙ ap (λ n. turns n (turn m (s .w)) f₀) (sym (grow-area (l .blob) (g .result) _ _ (g .ensures))),
+    let f₀ = flooding (set (now (s .seen)) (s .a) 1) (stackOf (set (now (s .waiting)) 0 (s .a)) 1) (c .before .before .before .before
+    .before .before .before .before .before .before .before .before .no-blob .result) 1 in (
+      floodStep-is m (s .w) (l .blob .area) (l .seen) (l .waiting) (l .top) (l .blob) (l .deep) (v .last .1 .0) (v .last .1 .1 .0)
+          (v .result) (g .result) (c .most .result) low (omega (
+            arith,
+            c .before .before .before .before .before .before .before .before
+                .before .before .loop-test .taken,
+          )) (v .ensures) (g .ensures) (c .most .ensures)
+          ∙ turns-step (floodStep m (s .w)) f₀ (l .blob .area) (l .inv .0)
+          ∙ ap (λ n. turns n (floodStep m (s .w)) f₀) (sym (grow-area (l .blob) (g .result) _ _ (g .ensures))),
       v .kept .1 .1 .0 ∙ l .inv .1,
     )
 

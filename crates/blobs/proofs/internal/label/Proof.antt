@@ -47,7 +47,8 @@ returns c =
     let a = c .before .before .before .before .before .before .before .before .before .before .before .before .before .before in
     let s = a .args in
     let v = c .before .before .before .before .before .before .label-exact in
-    labels-whole (now (s .mask)) (s .w) (s .h) (now (s .seen)) (now (s .waiting)) (now (s .patches)) (v .last .1 .1 .1 .0) (v .last .1 .1 .1 .1 .0) (v .last .1 .1 .1 .1 .1 .0) (v .result .patches) (v .result .waiting) (a .pre .1) (a .pre .2) (v .ensures)
+    labels-whole (now (s .mask)) (s .w) (s .h) (now (s .seen)) (now (s .waiting)) (now (s .patches)) (v .last .1 .1 .1 .0) (v .last .1 .1 .1
+    .1 .0) (v .last .1 .1 .1 .1 .1 .0) (v .result .patches) (v .result .waiting) (a .pre .1) (a .pre .2) (v .ensures)
 
 pub label-spec : {M : Type 1} → statement M
 label-spec =

@@ -54,8 +54,19 @@ loop-again : tie.Need-loop-again Inv-loop μ-loop
 loop-again c =
     let s = c .before .before .before .before .before .before .before .before .before .before .before .before .before .before .before .before .before .before .before .before .args in
     let l = c .before .before .before .before .before .before .before .before .before .before .before .loop in
-    let v = c .before .before .before .before .before .before .scan in
-    (v .ensures .0 ∙ turns-step (scan (now (s .mask)) (s .w)) (unmarked (now (s .mask))) (l .i) (l .inv .0), omega (arith, c .before .before .before .before .before .before .before .before .before .before .loop-test .taken), v .kept .1 .1 .1 .1 .0 ∙ l .inv .2, v .kept .1 .1 .1 .1 .1 .0 ∙ l .inv .3, v .ensures .1 .1 ∙ drop-later (recordLength * l .c .patches) (recordLength * v .result .patches) (l .patches) (now (s .patches)) (omega (arith, v .ensures .1 .0)) (l .inv .4))
+    let v = c .before .before .before .before .before .before .scan in (
+      v .ensures .0 ∙ turns-step (scan (now (s .mask)) (s .w)) (unmarked (now (s .mask))) (l .i) (l .inv .0),
+      omega (
+        arith,
+        c .before .before
+            .before .before .before .before .before .before .before .before .loop-test .taken,
+      ),
+      v .kept .1 .1 .1 .1 .0
+          ∙ l .inv .2,
+      v .kept .1 .1 .1 .1 .1 .0 ∙ l .inv .3,
+      v .ensures .1 .1 ∙ drop-later (recordLength * l .c .patches) (recordLength * v
+          .result .patches) (l .patches) (now (s .patches)) (omega (arith, v .ensures .1 .0)) (l .inv .4),
+    )
 
 same-length : tie.Need-same-length Inv-loop μ-loop
 same-length c =

@@ -18,10 +18,12 @@ use Rattle.blobs.proofs.internal.scan.Tie as tie
 -- the scan before the pixel i
 before : (a : tie.Start)
     → Scan (now (a .args .mask)) (a .args .w) (scanned (now (a .args .seen)) (table (patchAt (now (a .args .patches))) (a .args .c .patches)) (a .args .c .waiting)) (a .args .i)
-before a = scan-at (a .pre .0 .0) (scanned (now (a .args .seen)) (table (patchAt (now (a .args .patches))) (a .args .c .patches)) (a .args .c .waiting)) (a .args .i) (omega (arith, a .pre .0 .3)) (a .pre .1)
+before a = scan-at (a .pre .0 .0) (scanned (now (a .args .seen)) (table (patchAt (now (a .args .patches))) (a .args .c .patches))
+    (a .args .c .waiting)) (a .args .i) (omega (arith, a .pre .0 .3)) (a .pre .1)
 
 -- room for one record more
-roomy : (a : tie.Start) → (getD (now (a .args .mask)) (a .args .i) 0 ≡ 0 → ⊥) → getD (now (a .args .seen)) (a .args .i) 0 ≡ 0 → recordLength * a .args .c .patches + 7 ≤ length (now (a .args .patches))
+roomy : (a : tie.Start) → (getD (now (a .args .mask)) (a .args .i) 0 ≡ 0 → ⊥) → getD (now (a .args .seen)) (a .args .i) 0 ≡ 0
+    → recordLength * a .args .c .patches + 7 ≤ length (now (a .args .patches))
 roomy a d u =
     few-room (length (table (patchAt (now (a .args .patches))) (a .args .c .patches))) (a .args .c .patches) (length (now (a .args .mask))) (length (now (a .args .patches)))
     (length-table (patchAt (now (a .args .patches))) (a .args .c .patches)) (scan-few (before a) (a .pre .0 .3) d u) (a .pre .0 .2)
@@ -50,7 +52,9 @@ flood-requires c κs =
     (scan-ready (before a) (a .pre .0 .3) (c .before .before .before .before .if1 .left) (c .before .before .if2 .left), a .pre .0 .1)
 
 store-requires : tie.Need-store-requires
-store-requires c κs = roomy (c .before .before .before .before .before .before .before .before .before .before .before .before .before .before .before .before .before) (c .before .before .before .before .before .before .before .before .before .before .before .if1 .left) (c .before .before .before .before .before .before .before .before .before .if2 .left)
+store-requires c κs = roomy (c .before .before .before .before .before .before .before .before .before .before .before .before .before
+    .before .before .before .before) (c .before .before .before .before .before .before .before .before .before .before .before .if1 .left)
+    (c .before .before .before .before .before .before .before .before .before .if2 .left)
 
 most-requires : tie.Need-most-requires
 most-requires c κs = search needs
@@ -58,7 +62,13 @@ most-requires c κs = search needs
 add-t24 : tie.Need-add-t24
 add-t24 c =
     let a = c .before .before .before .before .before .before .before .before .before .before .before .before .before .before .before .before .before .before .before .before .before in
-    omega (arith, roomy a (c .before .before .before .before .before .before .before .before .before .before .before .before .before .before .before .if1 .left) (c .before .before .before .before .before .before .before .before .before .before .before .before .before .if2 .left), a .good .1 .1 .1 .1 .1 .0)
+    omega (
+      arith,
+      roomy a (c .before .before .before .before .before .before .before .before .before .before .before .before .before .before
+          .before .if1 .left) (c .before .before .before .before .before .before .before .before .before .before .before .before .before .if2
+          .left),
+      a .good .1 .1 .1 .1 .1 .0,
+    )
 
 same-length : tie.Need-same-length
 same-length c = search needs
@@ -79,7 +89,8 @@ returns-3 c =
     let d = c .before .before .before .before .before .before .before .before .before .before .before .before .before .before .before .if1 .left in
     let o = c .before .before .before .before .before .before .before .before .before .before .before .before .before .if2 .left in (
       ap (λ x. scanned (f .last .1 .0) (table (patchAt x) (n + 1)) (c .most .result)) (u .ensures)
-          ∙ scan-stored (now (s .mask)) (s .w) (s .i) (now (s .seen)) (now (s .patches)) n (s .c .waiting) (f .last .1 .0) (f .result .blob) (f .result .waiting) (c .most .result) d o (roomy a d o) (f .ensures .0) (c .most .ensures),
+          ∙ scan-stored (now (s .mask)) (s .w) (s .i) (now (s .seen)) (now (s .patches)) n (s .c .waiting) (f .last .1 .0) (f .result .blob)
+          (f .result .waiting) (c .most .result) d o (roomy a d o) (f .ensures .0) (c .most .ensures),
       (omega arith, ap (drop (recordLength * (n + 1))) (u .ensures) ∙ stored-rest (now (s .patches)) n (f .result .blob) (n + 1) (omega arith)),
     )
 

@@ -30,7 +30,9 @@ returns : tie.Need-returns
 unfolding ofBits ofInt d64 round
 returns c =
     let a = c .before .before .before .before .before .before .before .before .args in
-    ring-passed _ _ (a .w) (a .h) (a .blob) _ _ _ (sym (c .before .before .before .before .before .shaped .ensures) ∙ c .before .before .before .before .if1 .taken) (c .before .before .before .verify-bullseye .ensures) (tested _ _ _ refl (c .before .before .if2 .taken)) (c .before .center .ensures) (c .size .ensures)
+    ring-passed _ _ (a .w) (a .h) (a .blob) _ _ _ (sym (c .before .before .before .before .before .shaped .ensures)
+    ∙ c .before .before .before .before .if1 .taken) (c .before .before .before .verify-bullseye .ensures) (tested _ _ _ refl
+    (c .before .before .if2 .taken)) (c .before .center .ensures) (c .size .ensures)
 
 returns-2 : tie.Need-returns-2
 unfolding ofBits ofInt d64 round

@@ -2,7 +2,7 @@
 use Rattle.base.proofs.Floats.{held64}
 use lib.Ieee.{ofBits, ofInt}
 use Rattle.float.specs.Floats.{d64}
-use Rattle.candidates.specs.Ring.{centre}
+use Rattle.candidates.specs.Ring.{center}
 use native.Mathlib.Omega.{arith}
 use mathlib.Core.Path.{refl}
 use Rattle.candidates.proofs.internal.center.Statement.{statement}
@@ -18,7 +18,7 @@ int-to-float-t6 : tie.Need-int-to-float-t6
 int-to-float-t6 c = held64 _ (omega arith)
 
 returns : tie.Need-returns
-unfolding centre ofBits ofInt d64
+unfolding center ofBits ofInt d64
 returns c = refl
 
 pub center-spec : {M : Type 1} → statement M

@@ -24,11 +24,20 @@ loop-holds : tie.Need-loop-holds Inv-loop μ-loop
 loop-holds c = (list-none _ _ _ _ _ _ _, omega arith, omega arith)
 
 -- what the ring rule says of patch j
-ring-is : (c : tie.After-candidate-of Inv-loop μ-loop) → c .candidate-of .result ≡ ringOf (now (c .before .before .before .before .before .before .before .before .before .args .mask)) (now (c .before .before .before .before .before .before .before .before .before .args .luma)) (c .before .before .before .before .before .before .before .before .before .args .w) (c .before .before .before .before .before .before .before .before .before .args .h) (patchAt (now (c .before .before .before .before .before .before .before .before .before .args .patches)) (c .before .before .before .loop .j))
-ring-is c = c .candidate-of .ensures ∙ ap (ringOf (now (c .before .before .before .before .before .before .before .before .before .args .mask)) (now (c .before .before .before .before .before .before .before .before .before .args .luma)) (c .before .before .before .before .before .before .before .before .before .args .w) (c .before .before .before .before .before .before .before .before .before .args .h)) (c .before .blob-at .ensures)
+ring-is : (c : tie.After-candidate-of Inv-loop μ-loop) → c .candidate-of .result ≡ ringOf (now (c .before .before .before .before .before
+    .before .before .before .before .args .mask)) (now (c .before .before .before .before .before .before .before .before .before .args
+    .luma)) (c .before .before .before .before .before .before .before .before .before .args .w) (c .before .before .before .before .before
+    .before .before .before .before .args .h) (patchAt (now (c .before .before .before .before .before .before .before .before .before .args
+    .patches)) (c .before .before .before .loop .j))
+ring-is c = c .candidate-of .ensures ∙ ap (ringOf (now (c .before .before .before .before .before .before .before .before .before .args
+    .mask)) (now (c .before .before .before .before .before .before .before .before .before .args .luma)) (c .before .before .before .before
+    .before .before .before .before .before .args .w) (c .before .before .before .before .before .before .before .before .before .args .h))
+    (c .before .blob-at .ensures)
 
 blob-at-requires : tie.Need-blob-at-requires Inv-loop μ-loop
-blob-at-requires c κs = let r : 7 * c .before .before .before .before .before .before .before .args .n ≤ length (now (c .before .before .before .before .before .before .before .args .patches)) = c .before .before .before .before .before .before .before .pre .patches-long in let t = c .loop-test .taken in omega arith
+blob-at-requires c κs = let r : 7 * c .before .before .before .before .before .before .before .args .n ≤ length (now (c .before .before
+    .before .before .before .before .before .args .patches)) = c .before .before .before .before .before .before .before .pre .patches-long
+    in let t = c .loop-test .taken in omega arith
 
 candidate-of-requires : tie.Need-candidate-of-requires Inv-loop μ-loop
 candidate-of-requires c κs =
@@ -43,8 +52,11 @@ store-requires : tie.Need-store-requires Inv-loop μ-loop
 store-requires c κs =
     let a = c .before .before .before .before .before .before .before .before .before .before .before .args in
     let i = c .before .before .before .before .before .loop .inv in
-    storable (a .w) (a .h) (now (a .mask)) (now (a .luma)) (now (a .patches)) (a .n) (now (a .candidates)) (now (a .blob-index)) (c .before .before .before .before .before .before .before .before .before .before .before .pre)
-    (c .before .before .before .before .before .loop .j) (c .before .before .before .before .before .loop .k) (c .before .before .before .before .before .loop .candidates) (c .before .before .before .before .before .loop .blob-index) (c .before .before .candidate-of .result) (c .before .before .before .before .loop-test .taken) (i .1) (i .0 .c-long) (i .0 .p-long) (ring-is (c .before .before))
+    storable (a .w) (a .h) (now (a .mask)) (now (a .luma)) (now (a .patches)) (a .n) (now (a .candidates)) (now (a .blob-index))
+    (c .before .before .before .before .before .before .before .before .before .before .before .pre)
+    (c .before .before .before .before .before .loop .j) (c .before .before .before .before .before .loop .k) (c .before .before .before
+    .before .before .loop .candidates) (c .before .before .before .before .before .loop .blob-index) (c .before .before .candidate-of
+    .result) (c .before .before .before .before .loop-test .taken) (i .1) (i .0 .c-long) (i .0 .p-long) (ring-is (c .before .before))
 
 add-j : tie.Need-add-j Inv-loop μ-loop
 add-j c = search needs
@@ -61,7 +73,9 @@ loop-again c =
     let r = c .before .before .before .before .before .before .before .candidate-of .result in
     let t = c .before .before .before .before .before .before .before .before .before .loop-test .taken in
     let ready =
-    storable (a .w) (a .h) (now (a .mask)) (now (a .luma)) (now (a .patches)) (a .n) (now (a .candidates)) (now (a .blob-index)) (c .before .before .before .before .before .before .before .before .before .before .before .before .before .before .before .before .pre)
+    storable (a .w) (a .h) (now (a .mask)) (now (a .luma)) (now (a .patches)) (a .n) (now (a .candidates)) (now (a .blob-index))
+    (c .before .before .before .before .before .before .before .before .before .before .before .before .before .before .before .before
+    .pre)
     (l .j) (l .k) (l .candidates) (l .blob-index) r t (i .1) (i .0 .c-long) (i .0 .p-long) (ring-is (c .before .before .before .before .before .before .before)) in (
       list-turn (now (a .mask)) (now (a .luma)) (a .w) (a .h) (patchAt (now (a .patches))) (l .j) (now (a .candidates)) (now (a .blob-index)) (l .candidates) (l .blob-index) (l .k) _ _ _ r
           (i .0) (ring-is (c .before .before .before .before .before .before .before)) ready (e .0) (e .1) (e .2),
@@ -80,7 +94,8 @@ returns c =
     let a = c .before .before .before .before .before .before .before .args in
     let l = c .before .loop in
     let e : l .j ≡ a .n = let u = l .inv .2 in let v = c .loop-test .left in omega arith in
-    subst (λ z. CandidateList (now (a .mask)) (now (a .luma)) (a .w) (a .h) (patchAt (now (a .patches))) z (now (a .candidates)) (now (a .blob-index)) (l .candidates) (l .blob-index) (l .k)) e (l .inv .0)
+    subst (λ z. CandidateList (now (a .mask)) (now (a .luma)) (a .w) (a .h) (patchAt (now (a .patches))) z (now (a .candidates))
+    (now (a .blob-index)) (l .candidates) (l .blob-index) (l .k)) e (l .inv .0)
 
 pub list-spec : {M : Type 1} → statement M
 list-spec =

@@ -14,14 +14,16 @@ use Rattle.candidates.proofs.Tallies.{probing-none, probing-made}
 use Rattle.candidates.proofs.internal.probe.Statement.{statement}
 use Rattle.candidates.proofs.internal.probe.Tie as tie
 
-at-row : (c : tie.After-to-usize) → Pixel (c .before .before .before .before .before .args .w) (c .before .before .before .before .before .args .h) (asUsize (c .before .before .before .before .before .args .p .x)) (c .to-usize .result)
+at-row : (c : tie.After-to-usize) → Pixel (c .before .before .before .before .before .args .w) (c .before .before .before .before .before
+    .args .h) (asUsize (c .before .before .before .before .before .args .p .x)) (c .to-usize .result)
 at-row c =
     let a = c .before .before .before .before .before .args in
     let p = c .before .before .before .before .before .pre .0 in
     pixel (a .w) (a .h) (a .p .x) (a .p .y) (c .before .before .outside .result) (asUsize (a .p .x)) (c .to-usize .result) (p .w-some) (p .w-held) (p .h-some) (p .h-held)
     (c .before .before .outside .ensures) (c .before .if1 .left) refl (c .to-usize .ensures)
 
-at-pixel : (c : tie.After-to-usize2) → Pixel (c .before .before .before .before .before .before .args .w) (c .before .before .before .before .before .before .args .h) (c .to-usize2 .result) (c .before .to-usize .result)
+at-pixel : (c : tie.After-to-usize2) → Pixel (c .before .before .before .before .before .before .args .w) (c .before .before .before .before
+    .before .before .args .h) (c .to-usize2 .result) (c .before .to-usize .result)
 at-pixel c =
     let a = c .before .before .before .before .before .before .args in
     let p = c .before .before .before .before .before .before .pre .0 in
@@ -68,7 +70,9 @@ returns-2 c =
     let i = asUsize (a .p .y) * a .w + asUsize (a .p .x) in
     let e = getD (now (a .mask)) i 0 in
     let l = getD (now (a .luma)) i nan in
-    let same : c .tally .result ≡ tallied e l (a .p .dark) (a .t) = c .tally .ensures ∙ ap (λ z. tallied (getD (now (a .mask)) z 0) (getD (now (a .luma)) z nan) (a .p .dark) (a .t)) (ap (λ z. z * a .w + c .before .before .before .to-usize2 .result) ey ∙ ap (λ z. asUsize (a .p .y) * a .w + z) ex) in
+    let same : c .tally .result ≡ tallied e l (a .p .dark) (a .t) = c .tally .ensures ∙ ap (λ z. tallied (getD (now (a .mask)) z 0)
+    (getD (now (a .luma)) z nan) (a .p .dark) (a .t)) (ap (λ z. z * a .w + c .before .before .before .to-usize2 .result) ey
+    ∙ ap (λ z. asUsize (a .p .y) * a .w + z) ex) in
     probing-made _ _ (a .w) (a .h) (a .p) (a .t) (c .tally .result) e l (c .before .before .before .before .before .before .before .before .before .pre .1 .0) same
     (same ∙ pick-no _ _ _ (sym (c .before .before .before .before .before .before .outside .ensures) ∙ c .before .before .before .before .before .if1 .left))
 

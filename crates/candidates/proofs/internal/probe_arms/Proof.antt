@@ -38,22 +38,27 @@ probe-requires c κs = search needs
 probe-requires-2 : tie.Need-probe-requires-2
 probe-requires-2 c κs =
     let few : c .probe .result .made ≤ c .before .before .before .before .before .before .before .before .before .before .before .args .t .made + 1 = c .probe .ensures .few in
-    let start : c .before .before .before .before .before .before .before .before .before .before .before .args .t .made ≤ 13 = c .before .before .before .before .before .before .before .before .before .before .before .pre .1 .1 .1 in
+    let start : c .before .before .before .before .before .before .before .before .before .before .before .args .t .made ≤ 13 = c .before
+    .before .before .before .before .before .before .before .before .before .before .pre .1 .1 .1 in
     (c .before .before .before .before .before .before .before .before .before .before .before .pre .0, (c .probe .ensures .sound, omega arith))
 
 probe-requires-3 : tie.Need-probe-requires-3
 probe-requires-3 c κs =
-    let few : c .before .probe .result .made ≤ c .before .before .before .before .before .before .before .before .before .before .before .before .args .t .made + 1 = c .before .probe .ensures .few in
+    let few : c .before .probe .result .made ≤ c .before .before .before .before .before .before .before .before .before .before .before
+    .before .args .t .made + 1 = c .before .probe .ensures .few in
     let few2 : c .probe2 .result .made ≤ c .before .probe .result .made + 1 = c .probe2 .ensures .few in
-    let start : c .before .before .before .before .before .before .before .before .before .before .before .before .args .t .made ≤ 13 = c .before .before .before .before .before .before .before .before .before .before .before .before .pre .1 .1 .1 in
+    let start : c .before .before .before .before .before .before .before .before .before .before .before .before .args .t .made ≤ 13 = c
+    .before .before .before .before .before .before .before .before .before .before .before .before .pre .1 .1 .1 in
     (c .before .before .before .before .before .before .before .before .before .before .before .before .pre .0, (c .probe2 .ensures .sound, omega arith))
 
 probe-requires-4 : tie.Need-probe-requires-4
 probe-requires-4 c κs =
-    let few : c .before .before .probe .result .made ≤ c .before .before .before .before .before .before .before .before .before .before .before .before .before .args .t .made + 1 = c .before .before .probe .ensures .few in
+    let few : c .before .before .probe .result .made ≤ c .before .before .before .before .before .before .before .before .before .before
+    .before .before .before .args .t .made + 1 = c .before .before .probe .ensures .few in
     let few2 : c .before .probe2 .result .made ≤ c .before .before .probe .result .made + 1 = c .before .probe2 .ensures .few in
     let few3 : c .probe3 .result .made ≤ c .before .probe2 .result .made + 1 = c .probe3 .ensures .few in
-    let start : c .before .before .before .before .before .before .before .before .before .before .before .before .before .args .t .made ≤ 13 = c .before .before .before .before .before .before .before .before .before .before .before .before .before .pre .1 .1 .1 in
+    let start : c .before .before .before .before .before .before .before .before .before .before .before .before .before .args .t .made ≤
+    13 = c .before .before .before .before .before .before .before .before .before .before .before .before .before .pre .1 .1 .1 in
     (c .before .before .before .before .before .before .before .before .before .before .before .before .before .pre .0, (c .probe3 .ensures .sound, omega arith))
 
 returns : tie.Need-returns

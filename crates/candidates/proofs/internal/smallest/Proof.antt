@@ -18,7 +18,8 @@ add-t5 : tie.Need-add-t5
 add-t5 c = search needs
 
 mul-t6 : tie.Need-mul-t6
-mul-t6 c = let a : c .args .w ≤ 4096 = c .pre .0 in let b : c .args .h ≤ 4096 = c .pre .1 in let p = product-le (c .args .w + 1) (c .args .h + 1) 4097 4097 (omega arith) (omega arith) in omega arith
+mul-t6 c = let a : c .args .w ≤ 4096 = c .pre .0 in let b : c .args .h ≤ 4096 = c .pre .1 in
+    let p = product-le (c .args .w + 1) (c .args .h + 1) 4097 4097 (omega arith) (omega arith) in omega arith
 
 add-t7 : tie.Need-add-t7
 add-t7 c = let p = product-le (c .args .w) (c .args .h) 4096 4096 (c .pre .0) (c .pre .1) in omega arith

@@ -21,7 +21,9 @@ add-t11 : tie.Need-add-t11
 add-t11 c = omega arith
 
 returns : tie.Need-returns
-returns c = let a = c .before .before .before .before .before .before .before .args in tally-dark (a .entry) (a .luma) _ (a .dark) (a .t) _ (c .before .before .before .before .if1 .taken) (c .before .before .before .before .before .before .agrees .ensures .0) (c .before .before .before .before .before .widen .ensures)
+returns c = let a = c .before .before .before .before .before .before .before .args in
+    tally-dark (a .entry) (a .luma) _ (a .dark) (a .t) _ (c .before .before .before .before .if1 .taken) (c .before .before .before .before
+    .before .before .agrees .ensures .0) (c .before .before .before .before .before .widen .ensures)
 
 add-t12 : tie.Need-add-t12
 add-t12 c = omega arith
@@ -33,7 +35,9 @@ add-t15 : tie.Need-add-t15
 add-t15 c = omega arith
 
 returns-2 : tie.Need-returns-2
-returns-2 c = let a = c .before .before .before .before .before .before .before .args in tally-light (a .entry) (a .luma) _ (a .dark) (a .t) _ (c .before .before .before .before .if1 .left) (c .before .before .before .before .before .before .agrees .ensures .0) (c .before .before .before .before .before .widen .ensures)
+returns-2 c = let a = c .before .before .before .before .before .before .before .args in
+    tally-light (a .entry) (a .luma) _ (a .dark) (a .t) _ (c .before .before .before .before .if1 .left) (c .before .before .before .before
+    .before .before .agrees .ensures .0) (c .before .before .before .before .before .widen .ensures)
 
 pub tally-spec : {M : Type 1} → statement M
 tally-spec =

@@ -36,28 +36,50 @@ probe-arms-requires c κs =
 probe-arms-requires-2 : tie.Need-probe-arms-requires-2
 probe-arms-requires-2 c κs =
     let few : c .before .probe .result .made ≤ 1 = c .before .probe .ensures .few in
-    let few2 : c .probe-arms .result .made ≤ c .before .probe .result .made + 4 = c .probe-arms .ensures .few in
-    (c .before .before .before .before .before .before .before .before .pre .0, (c .before .before .before .before .before .before .before .before .pre .1, (c .probe-arms .ensures .sound, omega arith)))
+    let few2 : c .probe-arms .result .made ≤ c .before .probe .result .made + 4 = c .probe-arms .ensures .few in (
+      c .before .before .before .before .before .before .before .before .pre .0,
+      (
+        c .before .before .before .before .before .before .before
+            .before .pre .1,
+        (c .probe-arms .ensures .sound, omega arith),
+      ),
+    )
 
 probe-arms-requires-3 : tie.Need-probe-arms-requires-3
 probe-arms-requires-3 c κs =
     let few : c .before .before .probe .result .made ≤ 1 = c .before .before .probe .ensures .few in
     let few2 : c .before .probe-arms .result .made ≤ c .before .before .probe .result .made + 4 = c .before .probe-arms .ensures .few in
-    let few3 : c .probe-arms2 .result .made ≤ c .before .probe-arms .result .made + 4 = c .probe-arms2 .ensures .few in
-    (c .before .before .before .before .before .before .before .before .before .pre .0, (c .before .before .before .before .before .before .before .before .before .pre .1, (c .probe-arms2 .ensures .sound, omega arith)))
+    let few3 : c .probe-arms2 .result .made ≤ c .before .probe-arms .result .made + 4 = c .probe-arms2 .ensures .few in (
+      c .before .before .before .before .before .before .before .before .before .pre .0,
+      (
+        c .before .before .before .before .before .before
+            .before .before .before .pre .1,
+        (c .probe-arms2 .ensures .sound, omega arith),
+      ),
+    )
 
 probe-arms-requires-4 : tie.Need-probe-arms-requires-4
 probe-arms-requires-4 c κs =
     let few : c .before .before .before .probe .result .made ≤ 1 = c .before .before .before .probe .ensures .few in
     let few2 : c .before .before .probe-arms .result .made ≤ c .before .before .before .probe .result .made + 4 = c .before .before .probe-arms .ensures .few in
     let few3 : c .before .probe-arms2 .result .made ≤ c .before .before .probe-arms .result .made + 4 = c .before .probe-arms2 .ensures .few in
-    let few4 : c .probe-arms3 .result .made ≤ c .before .probe-arms2 .result .made + 4 = c .probe-arms3 .ensures .few in
-    (c .before .before .before .before .before .before .before .before .before .before .pre .0, (c .before .before .before .before .before .before .before .before .before .before .pre .1, (c .probe-arms3 .ensures .sound, omega arith)))
+    let few4 : c .probe-arms3 .result .made ≤ c .before .probe-arms2 .result .made + 4 = c .probe-arms3 .ensures .few in (
+      c .before .before .before .before .before .before .before .before .before .before .pre .0,
+      (
+        c .before .before .before .before .before
+            .before .before .before .before .before .pre .1,
+        (c .probe-arms3 .ensures .sound, omega arith),
+      ),
+    )
 
 share-requires : tie.Need-share-requires
 share-requires c κs = search needs
 
-all-probes : (c : tie.After-share) → Probing (now (c .before .before .before .before .before .before .before .before .before .before .before .before .args .mask)) (now (c .before .before .before .before .before .before .before .before .before .before .before .before .args .luma)) (c .before .before .before .before .before .before .before .before .before .before .before .before .args .w) (c .before .before .before .before .before .before .before .before .before .before .before .before .args .h) (probes (c .before .before .before .before .before .before .before .before .before .before .before .before .args .b)) noneMade (c .before .probe-arms4 .result)
+all-probes : (c : tie.After-share) → Probing (now (c .before .before .before .before .before .before .before .before .before .before .before
+    .before .args .mask)) (now (c .before .before .before .before .before .before .before .before .before .before .before .before .args
+    .luma)) (c .before .before .before .before .before .before .before .before .before .before .before .before .args .w) (c .before .before
+    .before .before .before .before .before .before .before .before .before .before .args .h) (probes (c .before .before .before .before
+    .before .before .before .before .before .before .before .before .args .b)) noneMade (c .before .probe-arms4 .result)
 unfolding probes ofBits ofInt d64
 all-probes c =
     probing-more _ _ _ _ _ _ _ _ _ (c .before .before .before .before .before .probe .ensures)

@@ -17,16 +17,23 @@ use Rattle.fiducials.proofs.internal.corners.Tie as tie
 in-list : (n k x : ℕ) (p : ℕ → Rattle.frame.specs.declared.Point.Point) → 4 ≤ k → x ≡ pick (cornerOf n) p k → x < k
 in-list n k x p a e = subst (λ z. z < k) (sym e) (pick-below (cornerOf n) p k (omega arith))
 
-shared-fact : (c : tie.After-shared) → c .shared .result ≡ sharedPick (centerAt (now (c .before .before .before .before .before .before .before .before .args .candidates))) (c .before .before .before .before .before .before .before .before .args .k)
+shared-fact : (c : tie.After-shared) → c .shared .result ≡ sharedPick (centerAt (now (c .before .before .before .before .before .before
+    .before .before .args .candidates))) (c .before .before .before .before .before .before .before .before .args .k)
 shared-fact c =
     c .shared .ensures
-    ∙ shared-is (centerAt (now (c .before .before .before .before .before .before .before .before .args .candidates))) (c .before .before .before .before .before .before .before .before .args .k) _ _ _ _ (c .before .before .before .before .pick .ensures) (c .before .before .before .pick2 .ensures) (c .before .before .pick3 .ensures) (c .before .pick4 .ensures)
+    ∙ shared-is (centerAt (now (c .before .before .before .before .before .before .before .before .args .candidates))) (c .before .before
+    .before .before .before .before .before .before .args .k) _ _ _ _ (c .before .before .before .before .pick .ensures)
+    (c .before .before .before .pick2 .ensures) (c .before .before .pick3 .ensures) (c .before .pick4 .ensures)
 
-quad-fact : (c : tie.After-quad-at) → c .quad-at .result ≡ quadOf (centerAt (now (c .before .before .before .before .before .before .before .before .before .before .args .candidates))) (c .before .before .before .before .before .before .before .before .before .before .args .k)
+quad-fact : (c : tie.After-quad-at) → c .quad-at .result ≡ quadOf (centerAt (now (c .before .before .before .before .before .before .before
+    .before .before .before .args .candidates))) (c .before .before .before .before .before .before .before .before .before .before .args
+    .k)
 quad-fact c =
     let p = centerAt (now (c .before .before .before .before .before .before .before .before .before .before .args .candidates)) in
     c .quad-at .ensures
-    ∙ quad-is p (c .before .before .before .before .before .before .before .before .before .before .args .k) _ _ _ _ (c .before .before .before .before .before .before .pick .ensures) (c .before .before .before .before .before .pick2 .ensures) (c .before .before .before .before .pick3 .ensures) (c .before .before .before .pick4 .ensures)
+    ∙ quad-is p (c .before .before .before .before .before .before .before .before .before .before .args .k) _ _ _ _ (c .before .before
+    .before .before .before .before .pick .ensures) (c .before .before .before .before .before .pick2 .ensures) (c .before .before
+    .before .before .pick3 .ensures) (c .before .before .before .pick4 .ensures)
     ∙ quad-of p (c .before .before .before .before .before .before .before .before .before .before .args .k)
 
 bad-fact : (c : tie.After-too-small) →
@@ -96,7 +103,9 @@ returns-3 : tie.Need-returns-3
 returns-3 c =
     let a = c .before .before .before .before .before .before .before .before .before .before .before .before .before .before .args in
     corners-refused (now (a .candidates)) (now (a .blob-index)) (a .w) (a .h) (a .k) 8 _ (c .refusal3 .ensures)
-    (number-9 _ _ _ _ (c .before .before .before .before .before .before .before .before .before .before .before .if1 .left) (sym (shared-fact (c .before .before .before .before .before .before)) ∙ c .before .before .before .before .before .if2 .left) (sym (bad-fact (c .before .before)) ∙ c .before .if3 .taken))
+    (number-9 _ _ _ _ (c .before .before .before .before .before .before .before .before .before .before .before .if1 .left)
+    (sym (shared-fact (c .before .before .before .before .before .before)) ∙ c .before .before .before .before .before .if2 .left)
+    (sym (bad-fact (c .before .before)) ∙ c .before .if3 .taken))
 
 places-at-requires : tie.Need-places-at-requires
 places-at-requires c κs =
@@ -121,7 +130,9 @@ returns-4 c =
     (c .before .before .before .before .quad-at .ensures ∙ quad-is p (a .k) _ _ _ _ e0 e1 e2 e3)
     (c .places-at .ensures ∙ places-are p (a .k) _ _ _ _ e0 e1 e2 e3 (now (a .blob-index)))
     refl
-    (number-0 _ _ _ _ (c .before .before .before .before .before .before .before .before .before .before .before .if1 .left) (sym (shared-fact (c .before .before .before .before .before .before)) ∙ c .before .before .before .before .before .if2 .left) (sym (bad-fact (c .before .before)) ∙ c .before .if3 .left))
+    (number-0 _ _ _ _ (c .before .before .before .before .before .before .before .before .before .before .before .if1 .left)
+    (sym (shared-fact (c .before .before .before .before .before .before)) ∙ c .before .before .before .before .before .if2 .left)
+    (sym (bad-fact (c .before .before)) ∙ c .before .if3 .left))
 
 pub corners-spec : {M : Type 1} → statement M
 corners-spec =

@@ -8,8 +8,11 @@ look-requires c κs = c .before .before .before .before .before .before .before 
 
 corners-requires : tie.Need-corners-requires
 corners-requires c κs =
-    let r = c .before .before .before .before .before .before .before .before .before .before .before .before .before .before .before .before .before .before .before .before .before .before .before .before .before .before .before .before .before .before .before .before .before .before .before .before .pre in
-    let room = candidates-room _ _ _ _ _ _ _ r (c .before .before .before .before .before .before .before .before .before .before .before .before .before .before .before .before .before .before .look .ensures) in
+    let r = c .before .before .before .before .before .before .before .before .before .before .before .before .before .before .before
+    .before .before .before .before .before .before .before .before .before .before .before .before .before .before .before .before
+    .before .before .before .before .before .pre in
+    let room = candidates-room _ _ _ _ _ _ _ r (c .before .before .before .before .before .before .before .before .before .before .before
+    .before .before .before .before .before .before .before .look .ensures) in
     (r .capture .w-most, r .capture .h-most, room .0, room .1)
 
 -- where `look` has returned
@@ -41,7 +44,8 @@ same-length-8 : tie.Need-same-length-8
 same-length-8 c = after c .look .kept .1 .1 .1 .1 .1 .1 .1 .1 .1 .1 .1 .0
 
 returns : tie.Need-returns
-returns c = detecting _ _ _ _ _ _ _ (after c .before .before .before .before .before .before .before .before .before .before .before .before .before .before .before .before .before .before .pre) (after c .look .ensures) _ (c .before .before .corners .ensures)
+returns c = detecting _ _ _ _ _ _ _ (after c .before .before .before .before .before .before .before .before .before .before .before .before
+    .before .before .before .before .before .before .pre) (after c .look .ensures) _ (c .before .before .corners .ensures)
 
 pub detect-spec : {M : Type 1} → statement M
 detect-spec =

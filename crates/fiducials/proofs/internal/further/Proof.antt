@@ -24,13 +24,15 @@ returns : tie.Need-returns
 returns c =
     let a = c .before .before .before .before .before .before .args in
     step-taken (a .corner) (centerAt (now (a .candidates))) (a .i) (a .best) (c .before .before .before .key .result) (c .before .key2 .result)
-    (c .before .before .before .key .ensures ∙ ap (keyOf (a .corner)) (c .before .before .before .before .center-at .ensures)) (c .before .key2 .ensures ∙ ap (keyOf (a .corner)) (c .before .before .center-at2 .ensures)) (c .if1 .taken)
+    (c .before .before .before .key .ensures ∙ ap (keyOf (a .corner)) (c .before .before .before .before .center-at .ensures))
+    (c .before .key2 .ensures ∙ ap (keyOf (a .corner)) (c .before .before .center-at2 .ensures)) (c .if1 .taken)
 
 returns-2 : tie.Need-returns-2
 returns-2 c =
     let a = c .before .before .before .before .before .before .args in
     step-left (a .corner) (centerAt (now (a .candidates))) (a .i) (a .best) (c .before .before .before .key .result) (c .before .key2 .result)
-    (c .before .before .before .key .ensures ∙ ap (keyOf (a .corner)) (c .before .before .before .before .center-at .ensures)) (c .before .key2 .ensures ∙ ap (keyOf (a .corner)) (c .before .before .center-at2 .ensures)) (c .if1 .left)
+    (c .before .before .before .key .ensures ∙ ap (keyOf (a .corner)) (c .before .before .before .before .center-at .ensures))
+    (c .before .key2 .ensures ∙ ap (keyOf (a .corner)) (c .before .before .center-at2 .ensures)) (c .if1 .left)
 
 pub further-spec : {M : Type 1} → statement M
 further-spec =

@@ -41,7 +41,8 @@ loop-again c = (c .further .ensures ∙ turns-step _ _ _ (c .before .before .loo
 
 returns : tie.Need-returns Inv-loop μ-loop
 unfolding pick
-returns c = let e : c .before .loop .i ≡ c .before .before .before .args .k = let u = c .before .loop .inv .1 in let v = c .loop-test .left in omega arith in turns-end _ _ _ _ (c .before .loop .inv .0) e
+returns c = let e : c .before .loop .i ≡ c .before .before .before .args .k = let u = c .before .loop .inv .1 in
+    let v = c .loop-test .left in omega arith in turns-end _ _ _ _ (c .before .loop .inv .0) e
 
 pub pick-spec : {M : Type 1} → statement M
 pick-spec =

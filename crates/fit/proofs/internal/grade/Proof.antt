@@ -1,7 +1,8 @@
 -- `fit::internal::grade` meets its contract. Assumes nothing.
-use Rattle.fit.proofs.Walks.{walkOf, tap-in, leaves, grade-out, grade-in, Sums, fisher-filled, filled-put, sum-put, false-true, cols-most, tap-outside-is, tap-is, cell-mean-is, cell-variance-is, mean-in, nine}
+use Rattle.fit.proofs.Walks.{walkOf, tap-in, leaves, grade-out, grade-in, Sums, fisher-filled, filled-put, sum-put, false-true, cols-most, tap-outside-is}
+use Rattle.fit.proofs.Walks.{tap-is, cell-mean-is, cell-variance-is, mean-in, nine}
 use Rattle.fit.specs.declared.Grade.the-variants.{Score}
-use Rattle.fit.specs.Doors.{sampledCells}
+use Rattle.fit.specs.Contracts.{sampledCells}
 use Rattle.fit.specs.Grid.{tapOutside, cellTap, cellMean, cellVariance, tapStep, cellStep, rowStep, walked, Going, Ended, fisher, fisherOf}
 use Rattle.fit.specs.Grid as G
 use Rattle.frame.specs.Image.{image}
@@ -41,8 +42,10 @@ Inv-cols capture w h frame fit means₀ cols across down found₀ cell₀ n₀ w
     × (Going ≡ turns x (cellStep (image w h capture) frame fit y) Going)
     × (x ≤ G.across frame)
     × (n ≡ n₀ + x)
-    × ((l : List Float) → means₀ ≡ filled (byRow (G.across frame) (cellMean (image w h capture) frame fit)) (y * G.across frame) l → means ≡ filled (byRow (G.across frame) (cellMean (image w h capture) frame fit)) (y * G.across frame + x) l)
-    × (within₀ ≡ sumOf (byRow (G.across frame) (cellVariance (image w h capture) frame fit)) (y * G.across frame) → within ≡ sumOf (byRow (G.across frame) (cellVariance (image w h capture) frame fit)) (y * G.across frame + x))
+    × ((l : List Float) → means₀ ≡ filled (byRow (G.across frame) (cellMean (image w h capture) frame fit)) (y * G.across frame) l → means
+    ≡ filled (byRow (G.across frame) (cellMean (image w h capture) frame fit)) (y * G.across frame + x) l)
+    × (within₀ ≡ sumOf (byRow (G.across frame) (cellVariance (image w h capture) frame fit)) (y * G.across frame) → within
+    ≡ sumOf (byRow (G.across frame) (cellVariance (image w h capture) frame fit)) (y * G.across frame + x))
     × (length means ≡ length means₀)
 
 abbrev μ-cols : tie.MeasureT-cols
@@ -94,10 +97,36 @@ tap-outside-requires :
 tap-outside-requires c κs = search needs
 
 mul-cell : tie.Need-mul-cell Inv-taps μ-taps Inv-cols μ-cols Inv-rows μ-rows
-mul-cell c = record { fits = omega (arith, product-le (3 * c .before .before .before .before .before .before .before .before .rows .y) (c .before .before .before .before .before .before .before .before .before .before .before .cols2 .result) 4095 4096 (omega arith) (omega (arith, c .before .before .before .before .before .before .before .before .before .before .before .cols2 .ensures, cols-most (c .before .before .before .before .before .before .before .before .before .before .before .before .before .before .args .frame) (c .before .before .before .before .before .before .before .before .before .before .before .before .before .before .pre .1)))) }
+mul-cell c = record {
+  fits = omega (
+    arith,
+    product-le (3 * c .before .before .before .before .before .before .before .before .rows .y)
+        (c .before .before .before .before .before .before .before .before .before .before .before .cols2 .result) 4095 4096 (omega arith)
+        (omega (
+          arith,
+          c .before .before .before .before .before .before .before .before .before .before .before .cols2 .ensures,
+          cols-most
+              (c .before .before .before .before .before .before .before .before .before .before .before .before .before .before .args .frame)
+              (c .before .before .before .before .before .before .before .before .before .before .before .before .before .before .pre .1),
+        )),
+  );
+}
 
 add-cell : tie.Need-add-cell Inv-taps μ-taps Inv-cols μ-cols Inv-rows μ-rows
-add-cell c = record { fits = omega (arith, product-le (3 * c .before .before .before .before .before .before .before .before .rows .y) (c .before .before .before .before .before .before .before .before .before .before .before .cols2 .result) 4095 4096 (omega arith) (omega (arith, c .before .before .before .before .before .before .before .before .before .before .before .cols2 .ensures, cols-most (c .before .before .before .before .before .before .before .before .before .before .before .before .before .before .args .frame) (c .before .before .before .before .before .before .before .before .before .before .before .before .before .before .pre .1)))) }
+add-cell c = record {
+  fits = omega (
+    arith,
+    product-le (3 * c .before .before .before .before .before .before .before .before .rows .y)
+        (c .before .before .before .before .before .before .before .before .before .before .before .cols2 .result) 4095 4096 (omega arith)
+        (omega (
+          arith,
+          c .before .before .before .before .before .before .before .before .before .before .before .cols2 .ensures,
+          cols-most
+              (c .before .before .before .before .before .before .before .before .before .before .before .before .before .before .args .frame)
+              (c .before .before .before .before .before .before .before .before .before .before .before .before .before .before .pre .1),
+        )),
+  );
+}
 
 reading-requires : tie.Need-reading-requires Inv-taps μ-taps Inv-cols μ-cols Inv-rows μ-rows
 reading-requires c κs = search needs
@@ -124,10 +153,12 @@ taps-again c =
     let x = c .before .before .before .before .before .before .before .before .cols .x in
     let y = c .before .before .before .before .before .before .before .before .before .before .rows .y in
     let inside : tapOutside (image (a .w) (a .h) (a .capture .now)) (a .frame) (a .fit) (3 * x) (3 * y) (l .i) ≡ false =
-    sym (tap-outside-is (image (a .w) (a .h) (a .capture .now)) (a .frame) (a .fit) (3 * x) (3 * y) (l .i) (c .before .before .before .before .tap-place .ensures) (c .before .before .before .tap-outside .ensures)) ∙ c .before .before .if1 .left in (
+    sym (tap-outside-is (image (a .w) (a .h) (a .capture .now)) (a .frame) (a .fit) (3 * x) (3 * y) (l .i) (c .before .before .before
+    .before .tap-place .ensures) (c .before .before .before .tap-outside .ensures)) ∙ c .before .before .if1 .left in (
       l .inv .0,
       tap-in (image (a .w) (a .h) (a .capture .now)) (a .frame) (a .fit) y x (l .i) inside ∙ turns-step _ _ _ (l .inv .1),
-      filled-step _ _ _ _ (l .inv .2) (tap-is (image (a .w) (a .h) (a .capture .now)) (a .frame) (a .fit) (3 * x) (3 * y) (l .i) (c .before .before .before .before .tap-place .ensures) (c .before .reading .ensures) (c .luma .ensures)),
+      filled-step _ _ _ _ (l .inv .2) (tap-is (image (a .w) (a .h) (a .capture .now)) (a .frame) (a .fit) (3 * x) (3 * y) (l .i)
+          (c .before .before .before .before .tap-place .ensures) (c .before .reading .ensures) (c .luma .ensures)),
       omega arith,
     )
 
@@ -143,9 +174,18 @@ mul-means c =
     let a = c .before .before .before .before .before .before .before .before .before .before .before .before .before .args in
     let hx : c .before .before .before .before .before .cols .x < G.across (a .frame) = omega arith in
     let hy : c .before .before .before .before .before .before .before .rows .y < G.down (a .frame) = omega arith in
-    let n : c .before .before .before .before .before .cols .n ≡ c .before .before .before .before .before .before .before .rows .y * G.across (a .frame) + c .before .before .before .before .before .cols .x = omega (arith, c .before .before .before .before .before .before .before .rows .inv .3) in
-    let m : length (c .before .before .before .before .before .cols .means) ≡ G.down (a .frame) * G.across (a .frame) = c .before .before .before .before .before .cols .inv .6 ∙ c .before .before .before .before .before .before .before .rows .inv .6 ∙ c .before .before .before .before .before .before .before .before .before .before .before .before .before .pre .2 in
-    let h : c .before .before .before .before .before .cols .n < length (c .before .before .before .before .before .cols .means) = mean-in (c .before .before .before .before .before .cols .x) (c .before .before .before .before .before .before .before .rows .y) (G.across (a .frame)) (G.down (a .frame)) _ _ hx hy n m in
+    let n : c .before .before .before .before .before .cols .n ≡ c .before .before .before .before .before .before .before .rows .y *
+    G.across (a .frame) + c .before .before .before .before .before .cols .x = omega (
+      arith,
+      c .before .before .before .before .before
+          .before .before .rows .inv .3,
+    ) in
+    let m : length (c .before .before .before .before .before .cols .means) ≡ G.down (a .frame) * G.across (a .frame) = c .before .before
+    .before .before .before .cols .inv .6 ∙ c .before .before .before .before .before .before .before .rows .inv .6
+    ∙ c .before .before .before .before .before .before .before .before .before .before .before .before .before .pre .2 in
+    let h : c .before .before .before .before .before .cols .n < length (c .before .before .before .before .before .cols .means) = mean-in
+    (c .before .before .before .before .before .cols .x) (c .before .before .before .before .before .before .before .rows .y)
+    (G.across (a .frame)) (G.down (a .frame)) _ _ hx hy n m in
     record { fits = omega arith }
 
 slice-write-means : tie.Need-slice-write-means Inv-taps μ-taps Inv-cols μ-cols Inv-rows μ-rows
@@ -154,9 +194,18 @@ slice-write-means c =
     let a = c .before .before .before .before .before .before .before .before .before .before .before .before .before .args in
     let hx : c .before .before .before .before .before .cols .x < G.across (a .frame) = omega arith in
     let hy : c .before .before .before .before .before .before .before .rows .y < G.down (a .frame) = omega arith in
-    let n : c .before .before .before .before .before .cols .n ≡ c .before .before .before .before .before .before .before .rows .y * G.across (a .frame) + c .before .before .before .before .before .cols .x = omega (arith, c .before .before .before .before .before .before .before .rows .inv .3) in
-    let m : length (c .before .before .before .before .before .cols .means) ≡ G.down (a .frame) * G.across (a .frame) = c .before .before .before .before .before .cols .inv .6 ∙ c .before .before .before .before .before .before .before .rows .inv .6 ∙ c .before .before .before .before .before .before .before .before .before .before .before .before .before .pre .2 in
-    let h : c .before .before .before .before .before .cols .n < length (c .before .before .before .before .before .cols .means) = mean-in (c .before .before .before .before .before .cols .x) (c .before .before .before .before .before .before .before .rows .y) (G.across (a .frame)) (G.down (a .frame)) _ _ hx hy n m in
+    let n : c .before .before .before .before .before .cols .n ≡ c .before .before .before .before .before .before .before .rows .y *
+    G.across (a .frame) + c .before .before .before .before .before .cols .x = omega (
+      arith,
+      c .before .before .before .before .before
+          .before .before .rows .inv .3,
+    ) in
+    let m : length (c .before .before .before .before .before .cols .means) ≡ G.down (a .frame) * G.across (a .frame) = c .before .before
+    .before .before .before .cols .inv .6 ∙ c .before .before .before .before .before .before .before .rows .inv .6
+    ∙ c .before .before .before .before .before .before .before .before .before .before .before .before .before .pre .2 in
+    let h : c .before .before .before .before .before .cols .n < length (c .before .before .before .before .before .cols .means) = mean-in
+    (c .before .before .before .before .before .cols .x) (c .before .before .before .before .before .before .before .rows .y)
+    (G.across (a .frame)) (G.down (a .frame)) _ _ hx hy n m in
     h
 
 add-n : tie.Need-add-n Inv-taps μ-taps Inv-cols μ-cols Inv-rows μ-rows
@@ -165,9 +214,18 @@ add-n c =
     let a = c .before .before .before .before .before .before .before .before .before .before .before .before .before .args in
     let hx : c .before .before .before .before .before .cols .x < G.across (a .frame) = omega arith in
     let hy : c .before .before .before .before .before .before .before .rows .y < G.down (a .frame) = omega arith in
-    let n : c .before .before .before .before .before .cols .n ≡ c .before .before .before .before .before .before .before .rows .y * G.across (a .frame) + c .before .before .before .before .before .cols .x = omega (arith, c .before .before .before .before .before .before .before .rows .inv .3) in
-    let m : length (c .before .before .before .before .before .cols .means) ≡ G.down (a .frame) * G.across (a .frame) = c .before .before .before .before .before .cols .inv .6 ∙ c .before .before .before .before .before .before .before .rows .inv .6 ∙ c .before .before .before .before .before .before .before .before .before .before .before .before .before .pre .2 in
-    let h : c .before .before .before .before .before .cols .n < length (c .before .before .before .before .before .cols .means) = mean-in (c .before .before .before .before .before .cols .x) (c .before .before .before .before .before .before .before .rows .y) (G.across (a .frame)) (G.down (a .frame)) _ _ hx hy n m in
+    let n : c .before .before .before .before .before .cols .n ≡ c .before .before .before .before .before .before .before .rows .y *
+    G.across (a .frame) + c .before .before .before .before .before .cols .x = omega (
+      arith,
+      c .before .before .before .before .before
+          .before .before .rows .inv .3,
+    ) in
+    let m : length (c .before .before .before .before .before .cols .means) ≡ G.down (a .frame) * G.across (a .frame) = c .before .before
+    .before .before .before .cols .inv .6 ∙ c .before .before .before .before .before .before .before .rows .inv .6
+    ∙ c .before .before .before .before .before .before .before .before .before .before .before .before .before .pre .2 in
+    let h : c .before .before .before .before .before .cols .n < length (c .before .before .before .before .before .cols .means) = mean-in
+    (c .before .before .before .before .before .cols .x) (c .before .before .before .before .before .before .before .rows .y)
+    (G.across (a .frame)) (G.down (a .frame)) _ _ hx hy n m in
     record { fits = omega arith }
 
 add-x : tie.Need-add-x Inv-taps μ-taps Inv-cols μ-cols Inv-rows μ-rows
@@ -184,15 +242,24 @@ cols-again c =
     let l = c .before .before .before .before .before .cols in
     let o = c .before .before .before .before .before .before .before .rows in
     let hx : l .x < G.across (a .frame) = omega arith in
-    let taps : k .taps ≡ filled (cellTap (image (a .w) (a .h) (a .capture .now)) (a .frame) (a .fit) (l .x) (o .y)) 9 (replicate 9 (ofBits binary64 0)) = filled-end _ _ _ _ (k .inv .2) (omega arith) in
-    let em : c .before .cell-mean .result ≡ cellMean (image (a .w) (a .h) (a .capture .now)) (a .frame) (a .fit) (l .x) (o .y) = cell-mean-is _ _ _ (l .x) (o .y) (k .taps) (replicate 9 (ofBits binary64 0)) taps (nine (ofBits binary64 0)) (c .before .cell-mean .ensures) in
-    let ev : c .cell-variance .result ≡ cellVariance (image (a .w) (a .h) (a .capture .now)) (a .frame) (a .fit) (l .x) (o .y) = cell-variance-is _ _ _ (l .x) (o .y) (k .taps) (replicate 9 (ofBits binary64 0)) taps (nine (ofBits binary64 0)) (c .cell-variance .ensures) em in (
+    let taps : k .taps ≡ filled (cellTap (image (a .w) (a .h) (a .capture .now)) (a .frame) (a .fit) (l .x) (o .y)) 9 (replicate 9
+    (ofBits binary64 0)) = filled-end _ _ _ _ (k .inv .2) (omega arith) in
+    let em : c .before .cell-mean .result ≡ cellMean (image (a .w) (a .h) (a .capture .now)) (a .frame) (a .fit) (l .x) (o .y) =
+    cell-mean-is _ _ _ (l .x) (o .y) (k .taps) (replicate 9 (ofBits binary64 0)) taps (nine (ofBits binary64 0)) (c .before .cell-mean
+    .ensures) in
+    let ev : c .cell-variance .result ≡ cellVariance (image (a .w) (a .h) (a .capture .now)) (a .frame) (a .fit) (l .x) (o .y) =
+    cell-variance-is _ _ _ (l .x) (o .y) (k .taps) (replicate 9 (ofBits binary64 0)) taps (nine (ofBits binary64 0)) (c .cell-variance
+    .ensures) em in (
       k .inv .0,
       turns-end _ _ _ _ (k .inv .1) (omega arith) ∙ turns-step _ _ _ (l .inv .1),
       omega arith,
       omega arith,
-      λ m e. filled-put _ m (o .y * G.across (a .frame) + l .x) _ _ _ (l .inv .4 m e) (omega (arith, o .inv .3)) (em ∙ sym (by-row (cellMean (image (a .w) (a .h) (a .capture .now)) (a .frame) (a .fit)) (G.across (a .frame)) (l .x) (o .y) hx)) (omega arith),
-      λ e. sum-put _ (o .y * G.across (a .frame) + l .x) _ _ (l .inv .5 e) (ev ∙ sym (by-row (cellVariance (image (a .w) (a .h) (a .capture .now)) (a .frame) (a .fit)) (G.across (a .frame)) (l .x) (o .y) hx)) (omega arith),
+      λ m e. filled-put _ m (o .y * G.across (a .frame) + l .x) _ _ _ (l .inv .4 m e) (omega (arith, o .inv .3)) (em
+          ∙ sym (by-row (cellMean (image (a .w) (a .h) (a .capture .now)) (a .frame) (a .fit)) (G.across (a .frame)) (l .x) (o .y) hx))
+          (omega arith),
+      λ e. sum-put _ (o .y * G.across (a .frame) + l .x) _ _ (l .inv .5 e) (ev
+          ∙ sym (by-row (cellVariance (image (a .w) (a .h) (a .capture .now)) (a .frame) (a .fit)) (G.across (a .frame)) (l .x) (o .y) hx))
+          (omega arith),
       simp length-set (l .inv .6),
     )
 
@@ -221,7 +288,8 @@ rows-again c =
 
 -- where the row walk has ended: by its test, or by a tap outside
 left-walk : (c : tie.Left-rows Inv-taps μ-taps Inv-cols μ-cols Inv-rows μ-rows)
-    → (let a = c .before .before .before .before .before .before .before .args in walkOf (c .rows-test .found) (c .rows-test .cell) ≡ walked (image (a .w) (a .h) (a .capture .now)) (a .frame) (a .fit))
+    → (let a = c .before .before .before .before .before .before .before .args in walkOf (c .rows-test .found) (c .rows-test .cell)
+    ≡ walked (image (a .w) (a .h) (a .capture .now)) (a .frame) (a .fit))
 unfolding walked
 left-walk c =
     let a = c .before .before .before .before .before .before .before .args in
@@ -239,14 +307,17 @@ left-walk c =
     ∙ sym (leaves img (a .frame) (a .fit) y x (w .3 .i) (l .inv .1) (w .1 .inv .1) (w .3 .inv .1) out (omega arith) (omega arith) (omega arith)))
     (c .rows-test .came)
 
-left-length : (c : tie.Left-rows Inv-taps μ-taps Inv-cols μ-cols Inv-rows μ-rows) → length (c .rows-test .means) ≡ length (c .before .before .before .before .before .before .before .args .means .now)
+left-length : (c : tie.Left-rows Inv-taps μ-taps Inv-cols μ-cols Inv-rows μ-rows) → length (c .rows-test .means)
+    ≡ length (c .before .before .before .before .before .before .before .args .means .now)
 left-length c =
     let l = c .before .rows in
     ⊎-elim (λ w. ap length (w .1) ∙ l .inv .6) (λ w. ap length (w .8) ∙ w .1 .inv .6 ∙ l .inv .6) (c .rows-test .came)
 
 left-sums : (c : tie.Left-rows Inv-taps μ-taps Inv-cols μ-cols Inv-rows μ-rows)
     → c .rows-test .found ≡ false
-    → (let a = c .before .before .before .before .before .before .before .args in Sums (image (a .w) (a .h) (a .capture .now)) (a .frame) (a .fit) (a .means .now) (c .rows-test .n) (c .rows-test .means) (c .rows-test .within))
+    → (let a = c .before .before .before .before .before .before .before .args in
+    Sums (image (a .w) (a .h) (a .capture .now)) (a .frame) (a .fit) (a .means .now) (c .rows-test .n) (c .rows-test .means)
+    (c .rows-test .within))
 left-sums c f =
     let l = c .before .rows in
     let a = c .before .before .before .before .before .before .before .args in
@@ -281,7 +352,8 @@ unfolding sampledCells
 fisher-requires c κs =
     let a = c .before .before .before .before .before .before .before .before .before .before .args in
     let m = left-sums (c .before .before .before) (c .before .before .if2 .left) in
-    let l : length (c .before .before .before .rows-test .means) ≡ G.down (a .frame) * G.across (a .frame) = left-length (c .before .before .before) ∙ c .before .before .before .before .before .before .before .before .before .before .pre .2 in
+    let l : length (c .before .before .before .rows-test .means) ≡ G.down (a .frame) * G.across (a .frame) = left-length (c .before .before
+    .before) ∙ c .before .before .before .before .before .before .before .before .before .before .pre .2 in
     let p : G.down (a .frame) * G.across (a .frame) ≤ 1366 * 1366 = product-le (G.down (a .frame)) (G.across (a .frame)) 1366 1366 (omega arith) (omega arith) in
     omega (arith, m .count)
 

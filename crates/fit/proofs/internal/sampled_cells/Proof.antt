@@ -1,6 +1,6 @@
 -- `fit::internal::sampled_cells` meets its contract. Assumes nothing.
 use Rattle.fit.specs.Grid.{down}
-use Rattle.fit.specs.Doors.{sampledCells}
+use Rattle.fit.specs.Contracts.{sampledCells}
 use Rattle.base.proofs.Arith.{product-le}
 use borrow.Author.Needs.{needs}
 use native.Mathlib.Omega.{arith}
@@ -20,7 +20,11 @@ mul-result c = record { fits = omega (arith, product-le (c .before .down .result
 
 returns : tie.Need-returns
 unfolding sampledCells
-returns c = (ap (λ z. z * c .across .result) (c .before .down .ensures .0) ∙ ap (λ z. down (c .before .before .args .frame) * z) (c .across .ensures .0), product-le (c .before .down .result) (c .across .result) 1366 1366 (omega arith) (omega arith))
+returns c = (
+  ap (λ z. z * c .across .result) (c .before .down .ensures .0) ∙ ap (λ z. down (c .before .before .args .frame) * z)
+      (c .across .ensures .0),
+  product-le (c .before .down .result) (c .across .result) 1366 1366 (omega arith) (omega arith),
+)
 
 pub sampled-cells-spec : {M : Type 1} → statement M
 sampled-cells-spec = tie.close (tie.spec down-requires across-requires mul-result returns)

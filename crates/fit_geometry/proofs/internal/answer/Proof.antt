@@ -1,7 +1,7 @@
 -- `fit_geometry::internal::answer` meets its contract. Assumes nothing.
 use mathlib.Core.Path.{ap}
 use Rattle.frame.specs.declared.Verdict.{Verdict}
-use Rattle.fit_geometry.specs.Doors.{answerOf}
+use Rattle.fit_geometry.specs.Contracts.{answerOf}
 use borrow.Author.Needs.{needs}
 use Rattle.fit_geometry.proofs.internal.answer.Statement.{statement}
 use Rattle.fit_geometry.proofs.internal.answer.Tie as tie

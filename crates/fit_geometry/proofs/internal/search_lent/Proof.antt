@@ -26,15 +26,23 @@ search-requires : tie.Need-search-requires
 search-requires c κs = let p = c .before .before .before .before .pre in (p .0, p .1, length-take-le _ _ (long (c .before)) ∙ c .before .sampled-cells .ensures .0)
 
 same-length : tie.Need-same-length
-same-length c = lent-length (c .before .before .search .last .1 .1 .1 .1 .1 .0) (c .before .before .before .before .before .before .before .args .means .now) (c .before .before .before .before .sampled-cells .result) (long (c .before .before .before .before)) (c .before .before .search .kept .1 .1 .1 .1 .1 .0)
+same-length c = lent-length (c .before .before .search .last .1 .1 .1 .1 .1 .0) (c .before .before .before .before .before .before .before
+    .args .means .now) (c .before .before .before .before .sampled-cells .result) (long (c .before .before .before .before))
+    (c .before .before .search .kept .1 .1 .1 .1 .1 .0)
 
 returns : tie.Need-returns
 returns c =
     let n = c .before .before .before .before .sampled-cells .result in
     let x = c .before .before .search .last .1 .1 .1 .1 .1 .0 in
     let l = c .before .before .before .before .before .before .before .args .means .now in
-    let k = c .before .before .search .kept .1 .1 .1 .1 .1 .0 in
-    (c .before .before .search .ensures, (lent-length x l n (long (c .before .before .before .before)) k, lent-rest x l n _ (long (c .before .before .before .before)) k (c .before .before .before .before .sampled-cells .ensures .0)))
+    let k = c .before .before .search .kept .1 .1 .1 .1 .1 .0 in (
+      c .before .before .search .ensures,
+      (
+        lent-length x l n (long (c .before .before .before .before)) k,
+        lent-rest x l n _
+            (long (c .before .before .before .before)) k (c .before .before .before .before .sampled-cells .ensures .0),
+      ),
+    )
 
 pub search-lent-spec : {M : Type 1} → statement M
 search-lent-spec = tie.close (tie.spec sampled-cells-requires slice-relend-prefix-search slice-aggregate-search search-requires same-length returns)

@@ -3,7 +3,7 @@ use mathlib.Core.Path.{_≡_, ap, _∙_}
 use Rattle.search.specs.Turn.{beginning}
 use Rattle.search.specs.Stages.{begun}
 use Rattle.search.specs.declared.Search.{Search}
-use Rattle.fit_geometry.specs.Doors.{unsearched}
+use Rattle.fit_geometry.specs.Contracts.{unsearched}
 use borrow.Author.Needs.{needs}
 use Rattle.fit_geometry.proofs.internal.unsearched.Statement.{statement}
 use Rattle.fit_geometry.proofs.internal.unsearched.Tie as tie

@@ -30,12 +30,16 @@ found c =
 add-result : tie.Need-add-result
 add-result c =
     let s = c .before in
-    record { fits = subst (λ (z : ℕ). (s .args .g / 2 - 1) * 2 ^ 52 + z < 2 ^ 64) (sym (found c)) (pattern-lt (s .args .d) (s .args .g) (s .pre .0) (s .pre .1 .0) (s .pre .1 .1 .0) (s .pre .1 .1 .1)) }
+    record {
+      fits = subst (λ (z : ℕ). (s .args .g / 2 - 1) * 2 ^ 52 + z < 2 ^ 64) (sym (found c)) (pattern-lt (s .args .d) (s .args .g)
+          (s .pre .0) (s .pre .1 .0) (s .pre .1 .1 .0) (s .pre .1 .1 .1));
+    }
 
 float-from-bits-result : tie.Need-float-from-bits-result
 float-from-bits-result c =
     let s = c .before in
-    subst (λ (z : ℕ). T (not (nanBits binary64 ((s .args .g / 2 - 1) * 2 ^ 52 + z)))) (sym (found c)) (no-nan (s .args .d) (s .args .g) (s .pre .0) (s .pre .1 .0) (s .pre .1 .1 .0) (s .pre .1 .1 .1))
+    subst (λ (z : ℕ). T (not (nanBits binary64 ((s .args .g / 2 - 1) * 2 ^ 52 + z)))) (sym (found c)) (no-nan (s .args .d) (s .args .g)
+    (s .pre .0) (s .pre .1 .0) (s .pre .1 .1 .0) (s .pre .1 .1 .1))
 
 returns : tie.Need-returns
 returns c =

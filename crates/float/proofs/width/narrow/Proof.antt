@@ -45,7 +45,10 @@ sub-p : tie.Need-sub-p
 sub-p c = search needs
 
 add-result : tie.Need-add-result
-add-result c = record { fits = lt-of-lt-of-le ((in-normal (c .before .before .before .args .x) (held (c .before .before .before)) (number (c .before .before)) (c .before .if2 .taken) (c .if3 .taken)) .2) (lit≤ tt) }
+add-result c = record {
+  fits = lt-of-lt-of-le ((in-normal (c .before .before .before .args .x) (held (c .before .before .before))
+      (number (c .before .before)) (c .before .if2 .taken) (c .if3 .taken)) .2) (lit≤ tt);
+}
 
 cast-result : tie.Need-cast-result
 cast-result c = record { fits = (in-normal (c .before .before .before .args .x) (held (c .before .before .before)) (number (c .before .before)) (c .before .if2 .taken) (c .if3 .taken)) .2 }
@@ -93,7 +96,10 @@ shr-p-2 : tie.Need-shr-p-2
 shr-p-2 c = search needs
 
 add-result-3 : tie.Need-add-result-3
-add-result-3 c = record { fits = lt-of-lt-of-le ((in-coded (c .before .before .before .args .x) (held (c .before .before .before)) (number (c .before .before)) (c .if4 .taken) (c .before .if2 .left)) .2) (lit≤ tt) }
+add-result-3 c = record {
+  fits = lt-of-lt-of-le ((in-coded (c .before .before .before .args .x) (held (c .before .before .before))
+      (number (c .before .before)) (c .if4 .taken) (c .before .if2 .left)) .2) (lit≤ tt);
+}
 
 cast-result-3 : tie.Need-cast-result-3
 cast-result-3 c = record { fits = (in-coded (c .before .before .before .args .x) (held (c .before .before .before)) (number (c .before .before)) (c .if4 .taken) (c .before .if2 .left)) .2 }

@@ -10,7 +10,8 @@ use Rattle.frame.proofs.internal.fill_rect.Statement.{statement}
 use Rattle.frame.proofs.internal.fill_rect.Tie as tie
 
 abbrev Inv-loop : tie.InvT-loop
-Inv-loop bytes₀ w h x0 y0 width height c x1 y1 y₀ bytes y = (bytes ≡ withRect (image w h bytes₀) x0 y0 (x1 - x0) (y - y0) c) × (y0 ≤ y) × (y - y0 ≤ y1 - y0) × (length bytes ≡ length bytes₀)
+Inv-loop bytes₀ w h x0 y0 width height c x1 y1 y₀ bytes y = (bytes ≡ withRect (image w h bytes₀) x0 y0 (x1 - x0) (y - y0) c) × (y0 ≤ y)
+    × (y - y0 ≤ y1 - y0) × (length bytes ≡ length bytes₀)
 
 abbrev μ-loop : tie.MeasureT-loop
 μ-loop bytes₀ w h x0 y0 width height c x1 y1 y₀ bytes y = y1 - y
@@ -47,8 +48,13 @@ loop-again c =
     let l = c .before .before .before .before .before .loop in
     let n = c .before .before .before .before .before .before .before .min .result - a .x0 in
     let fits : length (a .bytes .now) ≡ 3 * a .w * a .h = omega arith in
-    let e = rect-step (a .w) (a .h) (a .bytes .now) fits (a .x0) (a .y0) n (l .y) (a .c) (l .bytes) (l .inv .1) (l .inv .0) in
-    (c .before .before .fill-row .ensures ∙ e, omega arith, omega arith, ap length (c .before .before .fill-row .ensures ∙ e) ∙ length-rect (a .w) (a .h) (a .bytes .now) fits (a .x0) (a .y0) n (l .y + 1 - a .y0) (a .c))
+    let e = rect-step (a .w) (a .h) (a .bytes .now) fits (a .x0) (a .y0) n (l .y) (a .c) (l .bytes) (l .inv .1) (l .inv .0) in (
+      c .before .before .fill-row .ensures ∙ e,
+      omega arith,
+      omega arith,
+      ap length (c .before .before .fill-row .ensures ∙ e)
+          ∙ length-rect (a .w) (a .h) (a .bytes .now) fits (a .x0) (a .y0) n (l .y + 1 - a .y0) (a .c),
+    )
 
 same-length : tie.Need-same-length Inv-loop μ-loop
 same-length c = c .before .loop .inv .3

@@ -34,8 +34,13 @@ loop-again c =
     let a = c .before .before .before .before .before .before .before .args in
     let l = c .before .before .before .before .before .loop in
     let fits : length (a .bytes .now) ≡ 3 * a .w * a .h = omega arith in
-    let e = row-step (a .w) (a .h) (a .bytes .now) fits (a .x0) (a .y) (l .x) (a .c) (l .bytes) (l .inv .1) (omega arith) (omega arith) (l .inv .0) in
-    (c .before .before .set .ensures ∙ e, omega arith, omega arith, ap length (c .before .before .set .ensures ∙ e) ∙ length-rect (a .w) (a .h) (a .bytes .now) fits (a .x0) (a .y) (l .x + 1 - a .x0) 1 (a .c))
+    let e = row-step (a .w) (a .h) (a .bytes .now) fits (a .x0) (a .y) (l .x) (a .c) (l .bytes) (l .inv .1) (omega arith) (omega arith) (l .inv .0) in (
+      c .before .before .set .ensures ∙ e,
+      omega arith,
+      omega arith,
+      ap length (c .before .before .set .ensures ∙ e)
+          ∙ length-rect (a .w) (a .h) (a .bytes .now) fits (a .x0) (a .y) (l .x + 1 - a .x0) 1 (a .c),
+    )
 
 same-length : tie.Need-same-length Inv-loop μ-loop
 same-length c = c .before .loop .inv .3

@@ -23,13 +23,23 @@ add-bytes : tie.Need-add-bytes
 add-bytes c = let a = c .args in omega (arith, byte-in (a .w) (a .h) (a .x) (a .y) 2 (omega arith) (omega arith) (omega arith), bytes-most (a .w) (a .h) (omega arith) (omega arith))
 
 slice-write-bytes-2 : tie.Need-slice-write-bytes-2
-slice-write-bytes-2 c = let a = c .args in simp length-set (omega (arith, byte-in (a .w) (a .h) (a .x) (a .y) 2 (omega arith) (omega arith) (omega arith), bytes-most (a .w) (a .h) (omega arith) (omega arith)))
+slice-write-bytes-2 c = let a = c .args in simp length-set (omega (
+  arith,
+  byte-in (a .w) (a .h) (a .x) (a .y) 2 (omega arith) (omega arith)
+      (omega arith),
+  bytes-most (a .w) (a .h) (omega arith) (omega arith),
+))
 
 add-bytes-2 : tie.Need-add-bytes-2
 add-bytes-2 c = let a = c .args in omega (arith, byte-in (a .w) (a .h) (a .x) (a .y) 2 (omega arith) (omega arith) (omega arith), bytes-most (a .w) (a .h) (omega arith) (omega arith))
 
 slice-write-bytes-3 : tie.Need-slice-write-bytes-3
-slice-write-bytes-3 c = let a = c .args in simp length-set (omega (arith, byte-in (a .w) (a .h) (a .x) (a .y) 2 (omega arith) (omega arith) (omega arith), bytes-most (a .w) (a .h) (omega arith) (omega arith)))
+slice-write-bytes-3 c = let a = c .args in simp length-set (omega (
+  arith,
+  byte-in (a .w) (a .h) (a .x) (a .y) 2 (omega arith) (omega arith)
+      (omega arith),
+  bytes-most (a .w) (a .h) (omega arith) (omega arith),
+))
 
 same-length : tie.Need-same-length
 same-length c = simp length-set

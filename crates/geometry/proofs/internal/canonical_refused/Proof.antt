@@ -2,7 +2,7 @@
 use mathlib.Core.Path.{sym, subst, _∙_}
 use lib.Dec.{T}
 use Rattle.frame.proofs.Held.{frame-held}
-use Rattle.geometry.specs.Doors.{canonicalWrong}
+use Rattle.geometry.specs.Contracts.{canonicalWrong}
 use borrow.Author.Needs.{needs}
 use Rattle.geometry.proofs.internal.canonical_refused.Statement.{statement}
 use Rattle.geometry.proofs.internal.canonical_refused.Tie as tie

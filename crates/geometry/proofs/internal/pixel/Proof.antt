@@ -4,11 +4,11 @@ use Rattle.geometry.specs.Warp.{reading, pixelPlace}
 use Rattle.geometry.proofs.internal.pixel.Statement.{statement}
 use Rattle.geometry.proofs.internal.pixel.Tie as tie
 
-centre-requires : tie.Need-centre-requires
-centre-requires c κs = search needs
+center-requires : tie.Need-center-requires
+center-requires c κs = search needs
 
-centre-requires-2 : tie.Need-centre-requires-2
-centre-requires-2 c κs = search needs
+center-requires-2 : tie.Need-center-requires-2
+center-requires-2 c κs = search needs
 
 map-requires : tie.Need-map-requires
 map-requires c κs = search needs
@@ -24,8 +24,8 @@ pub pixel-spec : {M : Type 1} → statement M
 pixel-spec =
     tie.close
     (tie.spec
-    centre-requires
-    centre-requires-2
+    center-requires
+    center-requires-2
     map-requires
     reading-requires
     returns)

@@ -2,7 +2,7 @@
 use mathlib.Core.Path.{_∙_}
 use Rattle.frame.specs.Image.{image}
 use Rattle.candidates.proofs.Refusing.{tests-agree}
-use Rattle.fit_geometry.proofs.Picturing.{short-is}
+use Rattle.fit_geometry.proofs.PastTests.{short-is}
 use borrow.Author.Needs.{needs}
 use Rattle.geometry.proofs.internal.refused.Statement.{statement}
 use Rattle.geometry.proofs.internal.refused.Tie as tie

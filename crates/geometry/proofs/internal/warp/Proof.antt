@@ -17,7 +17,9 @@ use Rattle.geometry.proofs.internal.warp.Statement.{statement}
 use Rattle.geometry.proofs.internal.warp.Tie as tie
 
 abbrev Inv-loop : tie.InvT-loop
-Inv-loop capture w h frame fit canonical₀ width size height y₀ canonical y = (canonical ≡ filled (byteOf (frame .width) (reading (image w h capture) fit)) (y * size) canonical₀) × (y ≤ height) × (length canonical ≡ length canonical₀)
+Inv-loop capture w h frame fit canonical₀ width size height y₀ canonical y = (canonical
+    ≡ filled (byteOf (frame .width) (reading (image w h capture) fit)) (y * size) canonical₀) × (y ≤ height) × (length canonical
+    ≡ length canonical₀)
 
 abbrev μ-loop : tie.MeasureT-loop
 μ-loop capture w h frame fit canonical₀ width size height y₀ canonical y = height - y
@@ -28,7 +30,8 @@ mul-size c = search needs
 loop-holds : tie.Need-loop-holds Inv-loop μ-loop
 loop-holds c = (filled-end _ _ _ _ (filled-begin _ _) (search needs), search needs, refl)
 
-room : (c : tie.In-loop Inv-loop μ-loop) → c .before .loop .y * (3 * c .before .before .before .before .args .frame .width) + 3 * c .before .before .before .before .args .frame .width ≤ length (c .before .loop .canonical)
+room : (c : tie.In-loop Inv-loop μ-loop) → c .before .loop .y * (3 * c .before .before .before .before .args .frame .width) + 3 * c .before
+    .before .before .before .args .frame .width ≤ length (c .before .loop .canonical)
 room c =
     let a = c .before .before .before .before .args in
     omega (arith, row-fits (c .before .loop .y) (a .frame .height) (3 * a .frame .width) (omega arith))
@@ -72,7 +75,9 @@ loop-again c =
     let s = 3 * a .frame .width in
     let room : k .y * s + s ≤ length (k .canonical) = omega (arith, row-fits (k .y) (a .frame .height) s (omega arith)) in (
       filled-end _ _ _ _
-          (part-filled (byteOf (a .frame .width) (reading img (a .fit))) (rowByte img (a .fit) (k .y)) (a .canonical .now) (k .y * s) (k .y * s + s) s refl room (k .inv .0) (λ j h. row-byte img (a .fit) (a .frame .width) (k .y) j h) (c .before .before .warp-row .ensures))
+          (part-filled (byteOf (a .frame .width) (reading img (a .fit))) (rowByte img (a .fit) (k .y)) (a .canonical .now) (k .y * s)
+          (k .y * s + s) s refl room (k .inv .0) (λ j h. row-byte img (a .fit) (a .frame .width) (k .y) j h) (c .before .before
+          .warp-row .ensures))
           (row-end (k .y) s),
       omega arith,
       same-len-mid (k .y * s) (k .y * s + s - k .y * s) (k .canonical) (c .before .before .warp-row .last .1 .1 .1 .1 .1 .1 .0) (c .before .before .warp-row .kept .1 .1 .1 .1 .1 .1 .0) ∙ k .inv .2,

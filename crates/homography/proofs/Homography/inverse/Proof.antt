@@ -41,7 +41,8 @@ unfolding ofBits d64 round
 returns-2 c =
     let at = c .before .before .before .before in
     let t = ap (λ a. lt a tiny) (sym (c .before .before .before .abs .ensures)) ∙ c .before .before .if1 .left in
-    inverse-found (at .before .before .before .before .before .args .self) _ _ (at .before .before .before .cofactors .ensures) (at .product-at .ensures) _ t (c .from-mat .ensures ∙ c .before .quotients .ensures)
+    inverse-found (at .before .before .before .before .before .args .self) _ _ (at .before .before .before .cofactors .ensures)
+    (at .product-at .ensures) _ t (c .from-mat .ensures ∙ c .before .quotients .ensures)
 
 pub inverse-spec : {M : Type 1} → statement M
 inverse-spec =

@@ -29,7 +29,8 @@ abbrev μ-loop : tie.MeasureT-loop
 begin : (c : tie.After-slice-known Inv-loop μ-loop) → Place 0 (c .before .before .args .y + 1) (c .before .before .args .w + 1) (c .before .before .args .h + 1)
 begin c = place _ _ _ _ (omega arith) (omega arith)
 
-here : (c : tie.In-loop Inv-loop μ-loop) → Place (c .before .loop .x) (c .before .before .before .before .args .y) (c .before .before .before .before .args .w) (c .before .before .before .before .args .h)
+here : (c : tie.In-loop Inv-loop μ-loop) → Place (c .before .loop .x) (c .before .before .before .before .args .y) (c .before .before
+    .before .before .args .w) (c .before .before .before .before .args .h)
 here c = place _ _ _ _ (omega arith) (omega arith)
 
 length-is : (c : tie.At-loop Inv-loop μ-loop) → length (c .loop .integral) ≡ length (c .before .before .before .args .integral .now)
@@ -112,7 +113,9 @@ loop-again c =
     let n = length-is (c .before .before .before .before) in
     let q = ap (λ v. k .row ⊕ v) (c .before .widen .ensures) in
     let s = q ∙ turns-step (rowStep (a .luma .now) (a .w) (a .y)) _ _ (k .inv .2) in (
-      λ l e. filled-end _ _ _ _ (filled-step _ _ _ _ (k .inv .0 l e) (entry (a .luma .now) (a .w) (k .x) (a .y) _ _ (omega arith) (above (a .luma .now) (a .w) (k .x) (a .y) ((a .y + 1) * (a .w + 1) + (k .x + 1)) (k .integral) l (k .inv .0 l e) (omega arith) (omega arith) (omega arith)) s)) (omega arith),
+      λ l e. filled-end _ _ _ _ (filled-step _ _ _ _ (k .inv .0 l e) (entry (a .luma .now) (a .w) (k .x) (a .y) _ _ (omega arith)
+          (above (a .luma .now) (a .w) (k .x) (a .y) ((a .y + 1) * (a .w + 1) + (k .x + 1)) (k .integral) l (k .inv .0 l e) (omega arith)
+          (omega arith) (omega arith)) s)) (omega arith),
       omega arith,
       s,
       simp length-set (simp length-set at (k .inv .3)),

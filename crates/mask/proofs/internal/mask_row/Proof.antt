@@ -23,7 +23,8 @@ Inv-loop luma integral w h radius y mask₀ x₀ mask x =
 abbrev μ-loop : tie.MeasureT-loop
 μ-loop luma integral w h radius y mask₀ x₀ mask x = w - x
 
-here : (c : tie.In-loop Inv-loop μ-loop) → Place (c .before .loop .x) (c .before .before .before .before .before .args .y) (c .before .before .before .before .before .args .w) (c .before .before .before .before .before .args .h)
+here : (c : tie.In-loop Inv-loop μ-loop) → Place (c .before .loop .x) (c .before .before .before .before .before .args .y)
+    (c .before .before .before .before .before .args .w) (c .before .before .before .before .before .args .h)
 here c = place _ _ _ _ (omega arith) (omega arith)
 
 loop-holds : tie.Need-loop-holds Inv-loop μ-loop
@@ -53,7 +54,9 @@ loop-again : tie.Need-loop-again Inv-loop μ-loop
 loop-again c =
     let k = c .before .before .loop in
     let a = c .before .before .before .before .before .before .args in (
-      λ l e. filled-end _ _ _ _ (filled-step _ _ _ _ (k .inv .0 l e) (c .dark .ensures ∙ sym (by-row (λ x y. cond (isDark (a .luma .now) (a .w) (a .h) (a .radius) x y) 1 0) (a .w) (k .x) (a .y) (omega arith)))) (omega arith),
+      λ l e. filled-end _ _ _ _ (filled-step _ _ _ _ (k .inv .0 l e) (c .dark .ensures
+          ∙ sym (by-row (λ x y. cond (isDark (a .luma .now) (a .w) (a .h) (a .radius) x y) 1 0) (a .w) (k .x) (a .y) (omega arith))))
+          (omega arith),
       omega arith,
       simp length-set (k .inv .2),
     )

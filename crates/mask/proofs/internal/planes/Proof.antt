@@ -67,8 +67,17 @@ slice-aggregate-adaptive-black-mask c = sym (length-is (c .before .before .befor
 adaptive-black-mask-requires : tie.Need-adaptive-black-mask-requires
 adaptive-black-mask-requires c κs =
     let k = c .before .before .before .before .before .before in
-    let p = c .before .before .before .before .before .before .before .before .before .before .before .before .before .before .before .before .before .pre in
-    (p .capture .w-most, p .capture .h-most, c .before .before .before .radius .ensures .1, length-is (c .before .before .before .before .before .before .before .before .before .before .before), omega (arith, k .integral-plane .kept .1 .1 .1 .0, p .integral-room), p .mask-room, summed k)
+    let p = c .before .before .before .before .before .before .before .before .before .before .before .before .before .before .before .before .before .pre in (
+      p .capture .w-most,
+      p .capture .h-most,
+      c .before .before .before .radius .ensures .1,
+      length-is (c .before .before .before .before
+          .before .before .before .before .before .before .before),
+      omega (arith, k .integral-plane .kept .1 .1 .1 .0, p .integral-room),
+      p
+          .mask-room,
+      summed k,
+    )
 
 same-length : tie.Need-same-length
 same-length c = search needs
@@ -86,7 +95,8 @@ returns c =
     let p = plane-is (c .before .before .before .before .before .before .before .before .before .before .before .before .before .before) in
     record {
       luma-is = c .before .before .before .before .before .before .before .before .before .before .before .before .before .before .luma-plane .ensures;
-      integral-is = c .before .before .before .before .before .before .before .before .before .integral-plane .ensures ∙ ap (λ l. filled (integralEntry l (a .w)) ((a .w + 1) * (a .h + 1)) (a .integral .now)) p;
+      integral-is = c .before .before .before .before .before .before .before .before .before .integral-plane .ensures
+          ∙ ap (λ l. filled (integralEntry l (a .w)) ((a .w + 1) * (a .h + 1)) (a .integral .now)) p;
       mask-is =
           c .before .before .adaptive-black-mask .ensures
           ∙ ap (λ l. filled (darkEntry l (a .w) (a .h) (c .before .before .before .before .before .before .radius .result)) (a .w * a .h) (a .mask .now)) p

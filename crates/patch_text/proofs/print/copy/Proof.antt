@@ -42,8 +42,12 @@ loop-again : tie.Need-loop-again Inv-loop μ-loop
 loop-again c =
     let a = c .before .before .before .args in
     let l = c .before .before .loop in
-    let t = c .before .loop-test .taken in
-    (copy-more (now (a .out)) (l .out) (now (a .bytes)) (a .at) (l .i) t (omega (arith, c .before .before .before .pre, l .inv .2)) (l .inv .0), omega arith, length-set (l .out) (a .at + l .i) (getD (now (a .bytes)) (l .i) 0) ∙ l .inv .2)
+    let t = c .before .loop-test .taken in (
+      copy-more (now (a .out)) (l .out) (now (a .bytes)) (a .at) (l .i) t (omega (arith, c .before .before .before .pre, l .inv .2))
+          (l .inv .0),
+      omega arith,
+      length-set (l .out) (a .at + l .i) (getD (now (a .bytes)) (l .i) 0) ∙ l .inv .2,
+    )
 
 add-result : tie.Need-add-result Inv-loop μ-loop
 add-result c =

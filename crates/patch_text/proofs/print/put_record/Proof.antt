@@ -14,28 +14,125 @@ put-requires-2 : tie.Need-put-requires-2
 put-requires-2 c κs = omega (arith, c .before .before .before .before .before .before .pre, c .before .before .before .put .ensures .to, c .before .before .before .put .kept .0)
 
 put-requires-3 : tie.Need-put-requires-3
-put-requires-3 c κs = omega (arith, c .before .before .before .before .before .before .before .before .before .before .pre, c .before .before .before .put2 .ensures .to, c .before .before .before .put2 .kept .0, c .before .before .before .before .before .before .before .put .ensures .to, c .before .before .before .before .before .before .before .put .kept .0)
+put-requires-3 c κs = omega (
+  arith,
+  c .before .before .before .before .before .before .before .before .before .before .pre,
+  c .before
+      .before .before .put2 .ensures .to,
+  c .before .before .before .put2 .kept .0,
+  c .before .before .before .before .before .before .before
+      .put .ensures .to,
+  c .before .before .before .before .before .before .before .put .kept .0,
+)
 
 put-requires-4 : tie.Need-put-requires-4
-put-requires-4 c κs = omega (arith, c .before .before .before .before .before .before .before .before .before .before .before .before .before .before .pre, c .before .before .before .put3 .ensures .to, c .before .before .before .put3 .kept .0, c .before .before .before .before .before .before .before .put2 .ensures .to, c .before .before .before .before .before .before .before .put2 .kept .0, c .before .before .before .before .before .before .before .before .before .before .before .put .ensures .to, c .before .before .before .before .before .before .before .before .before .before .before .put .kept .0)
+put-requires-4 c κs = omega (
+  arith,
+  c .before .before .before .before .before .before .before .before .before .before .before .before
+      .before .before .pre,
+  c .before .before .before .put3 .ensures .to,
+  c .before .before .before .put3 .kept .0,
+  c .before .before .before
+      .before .before .before .before .put2 .ensures .to,
+  c .before .before .before .before .before .before .before .put2 .kept .0,
+  c .before
+      .before .before .before .before .before .before .before .before .before .before .put .ensures .to,
+  c .before .before .before .before
+      .before .before .before .before .before .before .before .put .kept .0,
+)
 
 put-requires-5 : tie.Need-put-requires-5
-put-requires-5 c κs = omega (arith, c .before .before .before .before .before .before .before .before .before .before .before .before .before .before .before .before .before .before .pre, c .before .before .before .put4 .ensures .to, c .before .before .before .put4 .kept .0, c .before .before .before .before .before .before .before .put3 .ensures .to, c .before .before .before .before .before .before .before .put3 .kept .0, c .before .before .before .before .before .before .before .before .before .before .before .put2 .ensures .to, c .before .before .before .before .before .before .before .before .before .before .before .put2 .kept .0, c .before .before .before .before .before .before .before .before .before .before .before .before .before .before .before .put .ensures .to, c .before .before .before .before .before .before .before .before .before .before .before .before .before .before .before .put .kept .0)
+put-requires-5 c κs = omega (
+  arith,
+  c .before .before .before .before .before .before .before .before .before .before .before .before
+      .before .before .before .before .before .before .pre,
+  c .before .before .before .put4 .ensures .to,
+  c .before .before .before .put4
+      .kept .0,
+  c .before .before .before .before .before .before .before .put3 .ensures .to,
+  c .before .before .before .before .before
+      .before .before .put3 .kept .0,
+  c .before .before .before .before .before .before .before .before .before .before .before .put2 .ensures
+      .to,
+  c .before .before .before .before .before .before .before .before .before .before .before .put2 .kept .0,
+  c .before .before .before
+      .before .before .before .before .before .before .before .before .before .before .before .before .put .ensures .to,
+  c .before .before
+      .before .before .before .before .before .before .before .before .before .before .before .before .before .put .kept .0,
+)
 
 put-requires-6 : tie.Need-put-requires-6
-put-requires-6 c κs = omega (arith, c .before .before .before .before .before .before .before .before .before .before .before .before .before .before .before .before .before .before .before .before .before .before .pre, c .before .before .before .put5 .ensures .to, c .before .before .before .put5 .kept .0, c .before .before .before .before .before .before .before .put4 .ensures .to, c .before .before .before .before .before .before .before .put4 .kept .0, c .before .before .before .before .before .before .before .before .before .before .before .put3 .ensures .to, c .before .before .before .before .before .before .before .before .before .before .before .put3 .kept .0, c .before .before .before .before .before .before .before .before .before .before .before .before .before .before .before .put2 .ensures .to, c .before .before .before .before .before .before .before .before .before .before .before .before .before .before .before .put2 .kept .0, c .before .before .before .before .before .before .before .before .before .before .before .before .before .before .before .before .before .before .before .put .ensures .to, c .before .before .before .before .before .before .before .before .before .before .before .before .before .before .before .before .before .before .before .put .kept .0)
+put-requires-6 c κs = omega (
+  arith,
+  c .before .before .before .before .before .before .before .before .before .before .before .before
+      .before .before .before .before .before .before .before .before .before .before .pre,
+  c .before .before .before .put5 .ensures .to,
+  c
+      .before .before .before .put5 .kept .0,
+  c .before .before .before .before .before .before .before .put4 .ensures .to,
+  c .before .before
+      .before .before .before .before .before .put4 .kept .0,
+  c .before .before .before .before .before .before .before .before .before
+      .before .before .put3 .ensures .to,
+  c .before .before .before .before .before .before .before .before .before .before .before .put3
+      .kept .0,
+  c .before .before .before .before .before .before .before .before .before .before .before .before .before .before .before
+      .put2 .ensures .to,
+  c .before .before .before .before .before .before .before .before .before .before .before .before .before .before
+      .before .put2 .kept .0,
+  c .before .before .before .before .before .before .before .before .before .before .before .before .before
+      .before .before .before .before .before .before .put .ensures .to,
+  c .before .before .before .before .before .before .before .before
+      .before .before .before .before .before .before .before .before .before .before .before .put .kept .0,
+)
 
 put-requires-7 : tie.Need-put-requires-7
-put-requires-7 c κs = omega (arith, c .before .before .before .before .before .before .before .before .before .before .before .before .before .before .before .before .before .before .before .before .before .before .before .before .before .before .pre, c .before .before .before .put6 .ensures .to, c .before .before .before .put6 .kept .0, c .before .before .before .before .before .before .before .put5 .ensures .to, c .before .before .before .before .before .before .before .put5 .kept .0, c .before .before .before .before .before .before .before .before .before .before .before .put4 .ensures .to, c .before .before .before .before .before .before .before .before .before .before .before .put4 .kept .0, c .before .before .before .before .before .before .before .before .before .before .before .before .before .before .before .put3 .ensures .to, c .before .before .before .before .before .before .before .before .before .before .before .before .before .before .before .put3 .kept .0, c .before .before .before .before .before .before .before .before .before .before .before .before .before .before .before .before .before .before .before .put2 .ensures .to, c .before .before .before .before .before .before .before .before .before .before .before .before .before .before .before .before .before .before .before .put2 .kept .0, c .before .before .before .before .before .before .before .before .before .before .before .before .before .before .before .before .before .before .before .before .before .before .before .put .ensures .to, c .before .before .before .before .before .before .before .before .before .before .before .before .before .before .before .before .before .before .before .before .before .before .before .put .kept .0)
+put-requires-7 c κs = omega (
+  arith,
+  c .before .before .before .before .before .before .before .before .before .before .before .before
+      .before .before .before .before .before .before .before .before .before .before .before .before .before .before .pre,
+  c .before .before
+      .before .put6 .ensures .to,
+  c .before .before .before .put6 .kept .0,
+  c .before .before .before .before .before .before .before .put5
+      .ensures .to,
+  c .before .before .before .before .before .before .before .put5 .kept .0,
+  c .before .before .before .before .before
+      .before .before .before .before .before .before .put4 .ensures .to,
+  c .before .before .before .before .before .before .before .before
+      .before .before .before .put4 .kept .0,
+  c .before .before .before .before .before .before .before .before .before .before .before
+      .before .before .before .before .put3 .ensures .to,
+  c .before .before .before .before .before .before .before .before .before .before
+      .before .before .before .before .before .put3 .kept .0,
+  c .before .before .before .before .before .before .before .before .before
+      .before .before .before .before .before .before .before .before .before .before .put2 .ensures .to,
+  c .before .before .before .before
+      .before .before .before .before .before .before .before .before .before .before .before .before .before .before .before .put2 .kept .0,
+  c .before .before .before .before .before .before .before .before .before .before .before .before .before .before .before .before
+      .before .before .before .before .before .before .before .put .ensures .to,
+  c .before .before .before .before .before .before .before
+      .before .before .before .before .before .before .before .before .before .before .before .before .before .before .before .before .put
+      .kept .0,
+)
 
 same-length : tie.Need-same-length
-same-length c = c .before .before .put7 .kept .0 ∙ c .before .before .before .before .before .before .put6 .kept .0 ∙ c .before .before .before .before .before .before .before .before .before .before .put5 .kept .0 ∙ c .before .before .before .before .before .before .before .before .before .before .before .before .before .before .put4 .kept .0 ∙ c .before .before .before .before .before .before .before .before .before .before .before .before .before .before .before .before .before .before .put3 .kept .0 ∙ c .before .before .before .before .before .before .before .before .before .before .before .before .before .before .before .before .before .before .before .before .before .before .put2 .kept .0 ∙ c .before .before .before .before .before .before .before .before .before .before .before .before .before .before .before .before .before .before .before .before .before .before .before .before .before .before .put .kept .0
+same-length c = c .before .before .put7 .kept .0 ∙ c .before .before .before .before .before .before .put6 .kept .0
+    ∙ c .before .before .before .before .before .before .before .before .before .before .put5 .kept .0 ∙ c .before .before .before .before
+    .before .before .before .before .before .before .before .before .before .before .put4 .kept .0 ∙ c .before .before .before .before
+    .before .before .before .before .before .before .before .before .before .before .before .before .before .before .put3 .kept .0
+    ∙ c .before .before .before .before .before .before .before .before .before .before .before .before .before .before .before .before
+    .before .before .before .before .before .before .put2 .kept .0 ∙ c .before .before .before .before .before .before .before .before
+    .before .before .before .before .before .before .before .before .before .before .before .before .before .before .before .before .before
+    .before .put .kept .0
 
 returns : tie.Need-returns
 unfolding recordLine
 returns c =
-    let a = c .before .before .before .before .before .before .before .before .before .before .before .before .before .before .before .before .before .before .before .before .before .before .before .before .before .before .before .before .before .args in
-    let v1 = c .before .before .before .before .before .before .before .before .before .before .before .before .before .before .before .before .before .before .before .before .before .before .before .before .before .before .put in
+    let a = c .before .before .before .before .before .before .before .before .before .before .before .before .before .before .before
+    .before .before .before .before .before .before .before .before .before .before .before .before .before .before .args in
+    let v1 = c .before .before .before .before .before .before .before .before .before .before .before .before .before .before .before
+    .before .before .before .before .before .before .before .before .before .before .before .put in
     let v2 = c .before .before .before .before .before .before .before .before .before .before .before .before .before .before .before .before .before .before .before .before .before .before .put2 in
     let v3 = c .before .before .before .before .before .before .before .before .before .before .before .before .before .before .before .before .before .before .put3 in
     let v4 = c .before .before .before .before .before .before .before .before .before .before .before .before .before .before .put4 in

@@ -40,8 +40,13 @@ loop-again c =
     let a = c .before .before .before .before .before .before .before .before .before .args in
     let l = c .before .before .before .before .before .before .loop in
     let v = c .before .before .put-record in
-    let b = c .before .before .before .before .blob-at in
-    (written-line (now (a .out)) (l .out) (v .last .0) (a .at) (l .end) (v .result) (l .j) (patchAt (now (a .patches))) (b .result) (b .ensures) (l .inv .0) (v .ensures), omega (arith, c .before .before .before .before .before .loop-test .taken), v .kept .0 ∙ l .inv .2)
+    let b = c .before .before .before .before .blob-at in (
+      written-line (now (a .out)) (l .out) (v .last .0) (a .at) (l .end) (v .result) (l .j) (patchAt (now (a .patches))) (b .result)
+          (b .ensures) (l .inv .0) (v .ensures),
+      omega (arith, c .before .before .before .before .before .loop-test .taken),
+      v .kept .0
+          ∙ l .inv .2,
+    )
 
 same-length : tie.Need-same-length Inv-loop μ-loop
 same-length c = c .before .loop .inv .2

@@ -77,8 +77,12 @@ loop-again : tie.Need-loop-again Inv-loop μ-loop
 unfolding pixelAt
 loop-again c =
     let a = c .before .before .before .before .before .before .args in
-    let l = c .before .before .before .loop in
-    (filled-step (pixelAt (now (a .text)) (a .w)) (now (a .mask)) (l .i) (c .pixel .result) (l .inv .0) (c .pixel .ensures), omega (arith, c .before .before .loop-test .taken), length-set (l .mask) (l .i) (c .pixel .result) ∙ l .inv .2)
+    let l = c .before .before .before .loop in (
+      filled-step (pixelAt (now (a .text)) (a .w)) (now (a .mask)) (l .i) (c .pixel .result) (l .inv .0) (c .pixel .ensures),
+      omega
+          (arith, c .before .before .loop-test .taken),
+      length-set (l .mask) (l .i) (c .pixel .result) ∙ l .inv .2,
+    )
 
 same-length : tie.Need-same-length Inv-loop μ-loop
 same-length c = c .before .loop .inv .2

@@ -66,14 +66,25 @@ abbrev Arg : Type 0
 Arg = RefT (List Candidate) × (RefT (List Float) × (RefT (List ℕ) × (ℕ × Unit {0})))
 
 abbrev stayed : Stays (store.ended .signature .params) (store.ended .kept)
-stayed = (stay-slice (0 ∷ []) tt (plain (λ _. T.the-row)), (stay-none-slice (1 ∷ []) tt (plain (λ _. f64)) yes, (stay-none-slice (2 ∷ []) tt (plain (λ _. u32)) yes, (stay-none (λ _. usize) yes, tt))))
+stayed = (
+  stay-slice (0 ∷ []) tt (plain (λ _. T.the-row)),
+  (
+    stay-none-slice (1 ∷ []) tt (plain (λ _. f64)) yes,
+    (
+      stay-none-slice (2
+          ∷ []) tt (plain (λ _. u32)) yes,
+      (stay-none (λ _. usize) yes, tt),
+    ),
+  ),
+)
 
 module _ {M : Type 1} (𝓤 : URA M) (H : Heap 𝓤) (A : Atoms 𝓤) (mem : Memory → SProp 𝓤) (run : Routine → Fun 𝓤) where
   -- the contract that the proof cites
   abbrev Flat : Contract 𝓤
   Flat = tripleOf 𝓤 H A flat.signature (flat.spec 𝓤 H A mem run)
 
-module _ {M : Type 1} (𝓤 : URA M) (H : Heap 𝓤) (A : Atoms 𝓤) (W : Given 𝓤 H A) (mem : Memory → SProp 𝓤) (run : Routine → Fun 𝓤) (κ κ₁ κ₂ : Lft) (q q₁ q₂ : Share) (b o : ℕ)
+module _ {M : Type 1} (𝓤 : URA M) (H : Heap 𝓤) (A : Atoms 𝓤) (W : Given 𝓤 H A) (mem : Memory → SProp 𝓤) (run : Routine
+    → Fun 𝓤) (κ κ₁ κ₂ : Lft) (q q₁ q₂ : Share) (b o : ℕ)
     (γ : GName) (ys : List Candidate) (c : RefT (List Float)) (n : RefT (List ℕ)) (i : ℕ) (i-fits : i < 2 ^ 64) where
   abbrev κs : Lfts 3
   κs = (κ, (κ₁, (κ₂, tt)))
@@ -136,7 +147,11 @@ module _ {M : Type 1} (𝓤 : URA M) (H : Heap 𝓤) (A : Atoms 𝓤) (W : Given
       move ! (2 ∷ 3 ∷ []) $ join ! $ frame ! $
       -- [obs; the borrow; what candidates owns; what blob_index owns; what i owns]: with the fact on the machine value the first two are what the slice owns
       fjoin ! $
-      pureI ! (at-slice T.the-row (z d) (at .0)) (tt, (tt, tt)) (ap (λ (m : ℕ). sliceVal (b, o) m ∷ []) (sym (length-set ys i d)), subst (Room T.the-row) (sym (length-set ys i d)) room) $ fjoin ! $
+      pureI ! (at-slice T.the-row (z d) (at .0)) (tt, (tt, tt)) (
+        ap (λ (m : ℕ). sliceVal (b, o) m ∷ []) (sym (length-set ys i d)),
+        subst
+            (Room T.the-row) (sym (length-set ys i d)) room,
+      ) $ fjoin ! $
       move ! (2 ∷ 3 ∷ []) $ fjoin ! $ move ! (2 ∷ 0 ∷ []) $ fjoin ! $ move ! (1 ∷ 0 ∷ []) $ fjoin ! $ frame ! $
       feqI ! (List Val) (vunit ∷ []) (vunit ∷ []) refl $ done !
 
@@ -159,7 +174,8 @@ module _ {M : Type 1} (𝓤 : URA M) (H : Heap 𝓤) (A : Atoms 𝓤) (W : Given
         calls-at ! fm (Flat 𝓤 H A mem run) known to
         (and-then ! (load ! (from ! (stop !)) (look ! 16 refl)) (and-then ! (load ! (from ! (stop !)) (look ! 14 refl)) (and-then ! (load ! (from ! (stop !)) (look ! 12 refl)) (no-more !)))) (λ u.
         use1 W (later (some (λ (d : Candidate).
-        ((‵ (flft κ₁ q₁) ⊛ ‵ (flft κ₂ q₂) ⊛ ‵ ftrue) ⊛ ‵ (T.the-row .own d (u ∷ []))) ⊛ raw (ensured 𝓤 H A flat.ended (flat.clauses 𝓤 H A mem run) (κ₁, (κ₂, tt))
+        ((‵ (flft κ₁ q₁) ⊛ ‵ (flft κ₂ q₂) ⊛ ‵ ftrue) ⊛ ‵ (T.the-row .own d (u ∷ []))) ⊛ raw (ensured 𝓤 H A flat.ended (flat.clauses 𝓤 H A
+        mem run) (κ₁, (κ₂, tt))
         (c, (n, (i, tt))) tt d)))) (id⊢ 𝓤 _) $ await ! tt $ pick ! (λ d.
         split ! $ move ! (1 ∷ []) $ use1 W (raw (fact 𝓤 (d ≡ candidateAt (c .now) (n .now) i))) (said d) $ heard ! (d ≡ candidateAt (c .now) (n .now) i) (λ e. split ! $ move ! (1 ∷ []) $
         peeks ! T.the-row (Is T.the-row) (shows 𝓤 H A T.the-row) d (u ∷ []) (λ is.
@@ -174,8 +190,10 @@ module _ {M : Type 1} (𝓤 : URA M) (H : Heap 𝓤) (A : Atoms 𝓤) (W : Given
         elem-out ! T.the-row (Is T.the-row) (shows 𝓤 H A T.the-row) (LL.vals T.the-type T′.the-laws) (LL.tells T.the-type T′.the-laws) fullShare ys i d b o within (λ _.
         -- [records[i]; what it owns; the others; the open borrow; obs; auth; records's fact; the tokens of the lists; what blob_index owns; what i
         -- owns; what candidates owns; _7; …; _6; …; _5; …; _4; …; _3; …; _2; …; _1; …; room for _0; …]
-        assigns ! (of-opd ! (load ! (from ! (stop !)) (look ! 15 refl))) (from ! (hop ! (look ! 11 refl) (stop !))) (store-raw ! 0 refl (LL.lawful T.the-type T′.the-laws 𝓤 H A W .typed d _ is .0)) $
-        move ! (1 ∷ []) $ drop ! $ owned ! T.the-row (Is T.the-row) (LL.makes T.the-type T′.the-plain 𝓤 H A) d _ is $ move ! (1 ∷ 0 ∷ []) $ elem-put ! T.the-row fullShare ys i d (u ∷ []) b o within $
+        assigns ! (of-opd ! (load ! (from ! (stop !)) (look ! 15 refl))) (from ! (hop ! (look ! 11 refl) (stop !))) (store-raw ! 0 refl
+        (LL.lawful T.the-type T′.the-laws 𝓤 H A W .typed d _ is .0)) $
+        move ! (1 ∷ []) $ drop ! $ owned ! T.the-row (Is T.the-row) (LL.makes T.the-type T′.the-plain 𝓤 H A) d _ is $ move ! (1 ∷ 0
+        ∷ []) $ elem-put ! T.the-row fullShare ys i d (u ∷ []) b o within $
         closes-slice ! tt T.the-row ys (zs d) (length-set ys i d) b o $
         -- [obs; the borrow; the token of records; records's fact; the tokens of the lists; what blob_index owns; what i owns; what candidates owns;
         -- _7; …; _6; …; _5; …; _4; …; _3; …; _2; …; _1; …; room for _0; …]
@@ -215,4 +233,5 @@ store-candidate-spec 𝓤 H 𝓜 𝓖 𝓡 =
     entered 𝓤 H (tripleOf 𝓤 H (𝓖 .A) store.signature (store.spec 𝓤 H (𝓖 .A) (𝓜 .mem) (𝓡 .run)))
     (tables 𝓤 H 𝓜 𝓡 code.env .C) (tables 𝓤 H 𝓜 𝓡 code.env .Λ) #records·internal·store-candidate code.function (code.unfolded 𝓤 H 𝓜 𝓡)
     (store-meets 𝓤 H (𝓖 .A) (givenOf 𝓤 H 𝓜 𝓖) (𝓜 .mem) (𝓡 .run) (tablesOf 𝓤 H 𝓜 (tables 𝓤 H 𝓜 𝓡 code.env))
-    (cited 𝓤 H (Flat 𝓤 H (𝓖 .A) (𝓜 .mem) (𝓡 .run)) 𝓜 𝓡 code.env #candidates·internal·candidate-at flat-def.routine code.calls-candidates·internal·candidate-at (flat-thm.met 𝓤 H 𝓜 𝓖 𝓡)))
+    (cited 𝓤 H (Flat 𝓤 H (𝓖 .A) (𝓜 .mem) (𝓡 .run)) 𝓜 𝓡 code.env #candidates·internal·candidate-at flat-def.routine
+    code.calls-candidates·internal·candidate-at (flat-thm.met 𝓤 H 𝓜 𝓖 𝓡)))

@@ -71,7 +71,8 @@ module _ {M : Type 1} (𝓤 : URA M) (H : Heap 𝓤) (A : Atoms 𝓤) (mem : Mem
   abbrev Flat : Contract 𝓤
   Flat = tripleOf 𝓤 H A flat.signature (flat.spec 𝓤 H A mem run)
 
-module _ {M : Type 1} (𝓤 : URA M) (H : Heap 𝓤) (A : Atoms 𝓤) (W : Given 𝓤 H A) (mem : Memory → SProp 𝓤) (run : Routine → Fun 𝓤) (κ κ′ : Lft) (q q′ : Share) (b o : ℕ) (γ : GName)
+module _ {M : Type 1} (𝓤 : URA M) (H : Heap 𝓤) (A : Atoms 𝓤) (W : Given 𝓤 H A) (mem : Memory → SProp 𝓤) (run : Routine → Fun 𝓤) (κ κ′ : Lft)
+    (q q′ : Share) (b o : ℕ) (γ : GName)
     (ys : List Blob) (s : RefT (List ℕ)) (j : ℕ) (j-fits : j < 2 ^ 64) where
   abbrev κs : Lfts 2
   κs = (κ, (κ′, tt))
@@ -117,14 +118,19 @@ module _ {M : Type 1} (𝓤 : URA M) (H : Heap 𝓤) (A : Atoms 𝓤) (W : Given
       ∷ (‵ (flft κ′ q′) ⊛ ‵ ftrue) ∷ ‵ Own ∷ ‵ (fsep (usize .own j (vint w64 j ∷ [])) ftrue) ∷ []))
       (Post vunit)
   exits d e room =
-      qed W (‵ (fobs γ (codedHoleys T.the-row .code (heres T.the-row (zs d)))) ∷ ‵ (fbor κ (Held T.the-row (length (zs d)) b o γ)) ∷ ‵ (flft κ q) ∷ (‵ (flft κ′ q′) ⊛ ‵ ftrue)
+      qed W (‵ (fobs γ (codedHoleys T.the-row .code (heres T.the-row (zs d)))) ∷ ‵ (fbor κ (Held T.the-row (length (zs d)) b o γ))
+      ∷ ‵ (flft κ q) ∷ (‵ (flft κ′ q′) ⊛ ‵ ftrue)
       ∷ ‵ Own ∷ ‵ (fsep (usize .own j (vint w64 j ∷ [])) ftrue) ∷ []) ∵
       suffices ! _ (ends-at 𝓤 H A store.ended stayed (store.clauses 𝓤 H A mem run) W ((κs, (q, (q′, tt)), tt, x, at), tt) vunit tt (zs d, (tt, (tt, tt)))
       (length-set ys j d, (tt, (tt, tt)))) $ says ! (ap zs e) $
       move ! (2 ∷ 3 ∷ []) $ join ! $ frame ! $
       -- [obs; the borrow; what patches owns; what j owns]: with the fact on the machine value the first two are what the slice owns
       fjoin ! $
-      pureI ! (at-slice T.the-row (z d) (at .0)) (tt, (tt, tt)) (ap (λ (m : ℕ). sliceVal (b, o) m ∷ []) (sym (length-set ys j d)), subst (Room T.the-row) (sym (length-set ys j d)) room) $ fjoin ! $
+      pureI ! (at-slice T.the-row (z d) (at .0)) (tt, (tt, tt)) (
+        ap (λ (m : ℕ). sliceVal (b, o) m ∷ []) (sym (length-set ys j d)),
+        subst
+            (Room T.the-row) (sym (length-set ys j d)) room,
+      ) $ fjoin ! $
       move ! (1 ∷ 2 ∷ []) $ fjoin ! $ move ! (1 ∷ 0 ∷ []) $ fjoin ! $ frame ! $
       feqI ! (List Val) (vunit ∷ []) (vunit ∷ []) refl $ done !
 
@@ -132,7 +138,8 @@ module _ {M : Type 1} (𝓤 : URA M) (H : Heap 𝓤) (A : Atoms 𝓤) (W : Given
     walk : Room T.the-row (length ys) → Is (ShrSlice (named 1) κ′ u64) s (v ∷ []) → j * 56 < 2 ^ 64 → j < length ys → recordLength * j + 6 < length (s .now)
         → ent 𝓤 (onEntry 𝓤 H A store.signature κs (q, (q′, tt)) x at) (WpFn 𝓤 H C Λ code.function (sliceVal (b, o) (length ys) ∷ v ∷ vint w64 j ∷ []) Post)
     walk room p fits within held =
-        qed W ((‵ (flft κ q) ⊛ ‵ (flft κ′ q′) ⊛ ‵ ftrue) ∷ ‵ (owns (MutSlice (named 0) κ T.the-row ∷ ShrSlice (named 1) κ′ u64 ∷ usize ∷ []) x at) ∷ []) ∵ enter ! C Λ
+        qed W ((‵ (flft κ q) ⊛ ‵ (flft κ′ q′) ⊛ ‵ ftrue) ∷ ‵ (owns (MutSlice (named 0) κ T.the-row ∷ ShrSlice (named 1) κ′ u64 ∷ usize
+        ∷ []) x at) ∷ []) ∵ enter ! C Λ
         code.function (sliceVal (b, o) (length ys) ∷ v ∷ vint w64 j ∷ []) _ $
         alloc1 ! (λ l₀. alloc1 ! (λ l₁. alloc1 ! (λ l₂. alloc1 ! (λ l₃. alloc1 ! (λ l₄. alloc1 ! (λ l₅. alloc1 ! (λ l₆. alloc0 ! $ params1 ! $
         pass1 ! (init ! 10 refl (tt, (tt, (record { fits = room .0 }, tt)))) $ pass1 ! (init ! 8 refl (shr-slice-lawful 𝓤 H A W (named 1) κ′ u64 .typed s (v ∷ []) p .0)) $
@@ -143,7 +150,8 @@ module _ {M : Type 1} (𝓤 : URA M) (H : Heap 𝓤) (A : Atoms 𝓤) (W : Given
         -- [what is asked; the token of records; what patches owns; what j owns; what records owns; room for _6; …; room for _5; …; room for _4; …; _3; …; _2; …; _1; …; room for _0; …]
         calls-at ! fm (Flat 𝓤 H A mem run) known to (and-then ! (load ! (from ! (stop !)) (look ! 13 refl)) (and-then ! (load ! (from ! (stop !)) (look ! 11 refl)) (no-more !))) (λ u.
         use1 W (later (some (λ (d : Blob).
-        ((‵ (flft κ′ q′) ⊛ ‵ ftrue) ⊛ ‵ (T.the-row .own d (u ∷ []))) ⊛ raw (ensured 𝓤 H A flat.ended (flat.clauses 𝓤 H A mem run) (κ′, tt) (s, (j, tt)) tt d)))) (id⊢ 𝓤 _) $
+        ((‵ (flft κ′ q′) ⊛ ‵ ftrue) ⊛ ‵ (T.the-row .own d (u ∷ []))) ⊛ raw (ensured 𝓤 H A flat.ended (flat.clauses 𝓤 H A mem run) (κ′, tt)
+        (s, (j, tt)) tt d)))) (id⊢ 𝓤 _) $
         await ! tt $ pick ! (λ d.
         split ! $ move ! (1 ∷ []) $ use1 W (raw (fact 𝓤 (d ≡ patchAt (s .now) j))) (said d) $ heard ! (d ≡ patchAt (s .now) j) (λ e. split ! $ move ! (1 ∷ []) $
         peeks ! T.the-row (Is T.the-row) (shows 𝓤 H A T.the-row) d (u ∷ []) (λ is.
@@ -157,8 +165,10 @@ module _ {M : Type 1} (𝓤 : URA M) (H : Heap 𝓤) (A : Atoms 𝓤) (W : Given
         elem-out ! T.the-row (Is T.the-row) (shows 𝓤 H A T.the-row) (LL.vals T.the-type T′.the-laws) (LL.tells T.the-type T′.the-laws) fullShare ys j d b o within (λ _.
         -- [records[j]; what it owns; the others; the open borrow; obs; auth; records's fact; the token of patches; what patches owns; what j owns;
         -- _6; …; _5; …; _4; …; _3; …; _2; …; _1; …; room for _0; …]
-        assigns ! (of-opd ! (load ! (from ! (stop !)) (look ! 14 refl))) (from ! (hop ! (look ! 10 refl) (stop !))) (store-raw ! 0 refl (LL.lawful T.the-type T′.the-laws 𝓤 H A W .typed d _ is .0)) $
-        move ! (1 ∷ []) $ drop ! $ owned ! T.the-row (Is T.the-row) (LL.makes T.the-type T′.the-plain 𝓤 H A) d _ is $ move ! (1 ∷ 0 ∷ []) $ elem-put ! T.the-row fullShare ys j d (u ∷ []) b o within $
+        assigns ! (of-opd ! (load ! (from ! (stop !)) (look ! 14 refl))) (from ! (hop ! (look ! 10 refl) (stop !))) (store-raw ! 0 refl
+        (LL.lawful T.the-type T′.the-laws 𝓤 H A W .typed d _ is .0)) $
+        move ! (1 ∷ []) $ drop ! $ owned ! T.the-row (Is T.the-row) (LL.makes T.the-type T′.the-plain 𝓤 H A) d _ is $ move ! (1 ∷ 0
+        ∷ []) $ elem-put ! T.the-row fullShare ys j d (u ∷ []) b o within $
         closes-slice ! tt T.the-row ys (zs d) (length-set ys j d) b o $
         -- [obs; the borrow; the token of records; records's fact; the token of patches; what patches owns; what j owns; _6; …; _5; …; _4; …; _3; …; _2; …; _1; …; room for _0; …]
         assigns ! (of-opd ! (unit-lit !)) (from ! (stop !)) (init ! 19 refl (tt, tt)) $
@@ -192,4 +202,5 @@ store-patch-spec 𝓤 H 𝓜 𝓖 𝓡 =
     entered 𝓤 H (tripleOf 𝓤 H (𝓖 .A) store.signature (store.spec 𝓤 H (𝓖 .A) (𝓜 .mem) (𝓡 .run)))
     (tables 𝓤 H 𝓜 𝓡 code.env .C) (tables 𝓤 H 𝓜 𝓡 code.env .Λ) #records·internal·store-patch code.function (code.unfolded 𝓤 H 𝓜 𝓡)
     (store-meets 𝓤 H (𝓖 .A) (givenOf 𝓤 H 𝓜 𝓖) (𝓜 .mem) (𝓡 .run) (tablesOf 𝓤 H 𝓜 (tables 𝓤 H 𝓜 𝓡 code.env))
-    (cited 𝓤 H (Flat 𝓤 H (𝓖 .A) (𝓜 .mem) (𝓡 .run)) 𝓜 𝓡 code.env #blobs·internal·blob-at flat-def.routine code.calls-blobs·internal·blob-at (flat-thm.met 𝓤 H 𝓜 𝓖 𝓡)))
+    (cited 𝓤 H (Flat 𝓤 H (𝓖 .A) (𝓜 .mem) (𝓡 .run)) 𝓜 𝓡 code.env #blobs·internal·blob-at flat-def.routine code.calls-blobs·internal·blob-at
+    (flat-thm.met 𝓤 H 𝓜 𝓖 𝓡)))

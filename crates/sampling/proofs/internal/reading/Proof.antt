@@ -6,27 +6,27 @@ use borrow.Author.Needs.{needs}
 use Rattle.frame.specs.Image.{Image, px}
 use Rattle.frame.specs.declared.Rgb.{Rgb}
 use Rattle.frame.specs.declared.Point.{Point}
-use Rattle.sampling.specs.declared.Span.{Span}
-use Rattle.sampling.specs.Reading.{bilinear, colourAt, blended, spanOf}
+use Rattle.sampling.specs.declared.Neighbours.{Neighbours}
+use Rattle.sampling.specs.Reading.{bilinear, colourAt, blended, neighboursOf}
 use Rattle.sampling.proofs.Whole.{first-in, next-in}
 use Rattle.sampling.proofs.internal.reading.Statement.{statement}
 use Rattle.sampling.proofs.internal.reading.Tie as tie
 
-module _ (c : tie.After-span) where
-  across-first : c .span .result .first < c .before .before .args .w
-  across-first = omega (arith, ap (λ s. s .first) (c .span .ensures), first-in (c .before .before .args .w) (c .before .before .args .p .x) (omega arith) (omega arith))
+module _ (c : tie.After-neighbours) where
+  across-first : c .neighbours .result .first < c .before .before .args .w
+  across-first = omega (arith, ap (λ s. s .first) (c .neighbours .ensures), first-in (c .before .before .args .w) (c .before .before .args .p .x) (omega arith) (omega arith))
 
-  across-next : c .span .result .next < c .before .before .args .w
-  across-next = omega (arith, ap (λ s. s .next) (c .span .ensures), next-in (c .before .before .args .w) (c .before .before .args .p .x) (omega arith) (omega arith))
+  across-next : c .neighbours .result .next < c .before .before .args .w
+  across-next = omega (arith, ap (λ s. s .next) (c .neighbours .ensures), next-in (c .before .before .args .w) (c .before .before .args .p .x) (omega arith) (omega arith))
 
-module _ (c : tie.After-span2) where
-  down-first : c .span2 .result .first < c .before .before .before .args .h
-  down-first = omega (arith, ap (λ s. s .first) (c .span2 .ensures), first-in (c .before .before .before .args .h) (c .before .before .before .args .p .y) (omega arith) (omega arith))
+module _ (c : tie.After-neighbours2) where
+  down-first : c .neighbours2 .result .first < c .before .before .before .args .h
+  down-first = omega (arith, ap (λ s. s .first) (c .neighbours2 .ensures), first-in (c .before .before .before .args .h) (c .before .before .before .args .p .y) (omega arith) (omega arith))
 
-  down-next : c .span2 .result .next < c .before .before .before .args .h
-  down-next = omega (arith, ap (λ s. s .next) (c .span2 .ensures), next-in (c .before .before .before .args .h) (c .before .before .before .args .p .y) (omega arith) (omega arith))
+  down-next : c .neighbours2 .result .next < c .before .before .before .args .h
+  down-next = omega (arith, ap (λ s. s .next) (c .neighbours2 .ensures), next-in (c .before .before .before .args .h) (c .before .before .before .args .p .y) (omega arith) (omega arith))
 
-colour-is : (img : Image) (s t : Span) (a b c d : Rgb) (r g bl : ℕ)
+colour-is : (img : Image) (s t : Neighbours) (a b c d : Rgb) (r g bl : ℕ)
     → a ≡ px img (s .first) (t .first)
     → b ≡ px img (s .next) (t .first)
     → c ≡ px img (s .first) (t .next)
@@ -38,15 +38,15 @@ colour-is : (img : Image) (s t : Span) (a b c d : Rgb) (r g bl : ℕ)
 unfolding colourAt
 colour-is img s t a b c d r g bl e1 e2 e3 e4 e5 e6 e7 = cc
 
-placed : (img : Image) (p : Point) (s t : Span) → s ≡ spanOf (img .w) (p .x) → t ≡ spanOf (img .h) (p .y) → colourAt img s t ≡ bilinear img p
+placed : (img : Image) (p : Point) (s t : Neighbours) → s ≡ neighboursOf (img .w) (p .x) → t ≡ neighboursOf (img .h) (p .y) → colourAt img s t ≡ bilinear img p
 unfolding bilinear
 placed img p s t e f = cc
 
-span-requires : tie.Need-span-requires
-span-requires c κs = search needs
+neighbours-requires : tie.Need-neighbours-requires
+neighbours-requires c κs = search needs
 
-span-requires-2 : tie.Need-span-requires-2
-span-requires-2 c κs = search needs
+neighbours-requires-2 : tie.Need-neighbours-requires-2
+neighbours-requires-2 c κs = search needs
 
 read-requires : tie.Need-read-requires
 read-requires c κs =
@@ -80,8 +80,8 @@ blend-requires-3 c κs = search needs
 returns : tie.Need-returns
 returns c =
     let k = c .before .before .before .before .before .before .before in
-    let s = k .before .span in
-    let t = k .span2 in
+    let s = k .before .neighbours in
+    let t = k .neighbours2 in
     colour-is _ (s .result) (t .result) _ _ _ _ _ _ _
     (c .before .before .before .before .before .before .read .ensures)
     (c .before .before .before .before .before .read2 .ensures)
@@ -96,8 +96,8 @@ pub reading-spec : {M : Type 1} → statement M
 reading-spec =
     tie.close
     (tie.spec
-    span-requires
-    span-requires-2
+    neighbours-requires
+    neighbours-requires-2
     read-requires
     read-requires-2
     read-requires-3

@@ -14,7 +14,7 @@ begun-requires c κs = search needs
 
 returns : tie.Need-returns
 unfolding beginning ofInt ofBits
-returns c = ap (λ (z : Stage). record { number = 0; entry = 0; centre = f64 0; stage = z; ended = false }) (c .begun .ensures)
+returns c = ap (λ (z : Stage). record { number = 0; entry = 0; center = f64 0; stage = z; ended = false }) (c .begun .ensures)
 
 pub begin-spec : {M : Type 1} → statement M
 begin-spec = tie.close (tie.spec begun-requires returns)

@@ -29,8 +29,12 @@ turn-requires : tie.Need-turn-requires Inv-loop μ-loop
 turn-requires c κs =
     let a = c .before .before .before .before .before .before .before .args in
     let l = c .before .before .before .loop in
-    let e : l .s .ended ≡ false = not-true _ (c .before .if1 .taken) in
-    (c .before .before .before .before .before .before .before .pre .0, c .before .before .before .before .before .before .before .pre .1, turn-counting _ _ _ (l .s) (l .inv .0) e (l .inv .1), l .inv .2 ∙ c .before .before .before .before .before .before .before .pre .2)
+    let e : l .s .ended ≡ false = not-true _ (c .before .if1 .taken) in (
+      c .before .before .before .before .before .before .before .pre .0,
+      c .before .before .before .before .before .before .before .pre .1,
+      turn-counting _ _ _ (l .s) (l .inv .0) e (l .inv .1),
+      l .inv .2 ∙ c .before .before .before .before .before .before .before .pre .2,
+    )
 
 loop-less : tie.Need-loop-less Inv-loop μ-loop
 loop-less c =

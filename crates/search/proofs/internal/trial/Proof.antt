@@ -20,7 +20,9 @@ same-length : tie.Need-same-length
 same-length c = search needs
 
 returns : tie.Need-returns
-returns c = trial-graded _ _ _ _ (c .before .before .before .before .before .before .before .fitted .result) (c .before .before .before .before .before .before .before .fitted .ensures) (c .before .before .before .before .enum-told .given .1) (c .before .before .grade .ensures)
+returns c = trial-graded _ _ _ _ (c .before .before .before .before .before .before .before .fitted .result) (c .before .before .before
+    .before .before .before .before .fitted .ensures) (c .before .before .before .before .enum-told .given .1) (c .before .before .grade
+    .ensures)
 
 returns-2 : tie.Need-returns-2
 returns-2 c = trial-none _ _ _ _ (c .before .before .before .fitted .result) (c .before .before .before .fitted .ensures) (c .enum-told2 .given .1)

@@ -34,7 +34,7 @@ returns-2 c =
     let a = c .before .before .before .before .before .before .before .before .before .before .before .before .args in
     let img = image (a .w) (a .h) (a .capture .now) in
     let s = a .search in
-    let k = kAt (s .number) (s .centre) (s .entry) in
+    let k = kAt (s .number) (s .center) (s .entry) in
     let t : c .before .before .before .before .before .trial .result ≡ trialOf img (a .frame) (a .quad) k = cc in
     let e : c .advance .result ≡ advanced s (staged (trialOf img (a .frame) (a .quad) k .outcome) (trialOf img (a .frame) (a .quad) k .fit) (s .stage)) = cc in
     e ∙ ap (advanced s) (staged-trial img (a .frame) (a .quad) k (s .stage)) ∙ pick-no _ _ _ (c .before .before .before .before .before .before .before .before .before .if1 .left)

@@ -36,11 +36,12 @@ returns-2 : tie.Need-returns-2
 returns-2 c =
     let a = c .before .before .before .before .before .before .before .before .args in
     let k : keeps (a .t .kept) ≡ true = sym (c .before .before .before .before .before .keeps .ensures) ∙ c .before .before .before .before .if2 .taken in
-    ap (λ (z : Stage). record { number = a .s .number + 1; entry = 0; centre = a .t .fit .radial .k; stage = z; ended = false }) (c .begun .ensures)
+    ap (λ (z : Stage). record { number = a .s .number + 1; entry = 0; center = a .t .fit .radial .k; stage = z; ended = false }) (c .begun .ensures)
     ∙ advanced-stage _ _ (omega (arith, c .before .before .before .before .before .before .before .entries .ensures)) k (omega arith)
 
 returns-3 : tie.Need-returns-3
-returns-3 c = advanced-over _ _ (omega (arith, c .before .before .before .before .entries .ensures)) (not-second (keeps (c .before .before .before .before .before .args .t .kept)) (le-ltb (c .before .before .before .before .before .args .s .number) 2 (omega arith)))
+returns-3 c = advanced-over _ _ (omega (arith, c .before .before .before .before .entries .ensures)) (not-second (keeps (c .before .before
+    .before .before .before .args .t .kept)) (le-ltb (c .before .before .before .before .before .args .s .number) 2 (omega arith)))
 
 returns-4 : tie.Need-returns-4
 returns-4 c = advanced-over _ _ (omega (arith, c .before .before .before .entries .ensures)) (not-first _ (sym (c .before .keeps .ensures) ∙ c .if2 .left))

@@ -18,11 +18,13 @@ capture-wrong-requires c κs = search needs
 
 returns-2 : tie.Need-returns-2
 unfolding captureFirst
-returns-2 c = sym (lowest-next 1 _ _ (sym (c .before .before .before .frame-outside .ensures) ∙ c .before .before .if1 .left) ∙ lowest-first 2 _ _ (sym (c .before .capture-wrong .ensures) ∙ c .if2 .taken))
+returns-2 c = sym (lowest-next 1 _ _ (sym (c .before .before .before .frame-outside .ensures) ∙ c .before .before .if1 .left)
+    ∙ lowest-first 2 _ _ (sym (c .before .capture-wrong .ensures) ∙ c .if2 .taken))
 
 returns-3 : tie.Need-returns-3
 unfolding captureFirst
-returns-3 c = sym (lowest-next 1 _ _ (sym (c .before .before .before .frame-outside .ensures) ∙ c .before .before .if1 .left) ∙ lowest-next 2 _ _ (sym (c .before .capture-wrong .ensures) ∙ c .if2 .left) ∙ lowest-first 3 _ _ refl)
+returns-3 c = sym (lowest-next 1 _ _ (sym (c .before .before .before .frame-outside .ensures) ∙ c .before .before .if1 .left)
+    ∙ lowest-next 2 _ _ (sym (c .before .capture-wrong .ensures) ∙ c .if2 .left) ∙ lowest-first 3 _ _ refl)
 
 pub capture-first-spec : {M : Type 1} → statement M
 capture-first-spec =

@@ -19,11 +19,19 @@ sides-wrong-requires c κs = search needs
 
 returns-2 : tie.Need-returns-2
 unfolding sidesFirst
-returns-2 c = (sym (lowest-next 1 _ _ (sym (c .before .before .before .frame-outside .ensures) ∙ c .before .before .if1 .left) ∙ lowest-first 2 _ _ (sym (c .before .sides-wrong .ensures) ∙ c .if2 .taken)), λ e. omega arith)
+returns-2 c = (
+  sym (lowest-next 1 _ _ (sym (c .before .before .before .frame-outside .ensures) ∙ c .before .before .if1 .left)
+      ∙ lowest-first 2 _ _ (sym (c .before .sides-wrong .ensures) ∙ c .if2 .taken)),
+  λ e. omega arith,
+)
 
 returns-3 : tie.Need-returns-3
 unfolding sidesFirst
-returns-3 c = (sym (lowest-next 1 _ _ (sym (c .before .before .before .frame-outside .ensures) ∙ c .before .before .if1 .left) ∙ lowest-next 2 _ _ (sym (c .before .sides-wrong .ensures) ∙ c .if2 .left) ∙ lowest-first 3 _ _ refl), λ e. omega arith)
+returns-3 c = (
+  sym (lowest-next 1 _ _ (sym (c .before .before .before .frame-outside .ensures) ∙ c .before .before .if1 .left)
+      ∙ lowest-next 2 _ _ (sym (c .before .sides-wrong .ensures) ∙ c .if2 .left) ∙ lowest-first 3 _ _ refl),
+  λ e. omega arith,
+)
 
 pub sides-first-spec : {M : Type 1} → statement M
 sides-first-spec =

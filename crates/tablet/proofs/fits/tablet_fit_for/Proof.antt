@@ -6,7 +6,7 @@ use Rattle.tablet.specs.Layouts.{frame, quadOf, fitNumbers}
 use Rattle.tablet.specs.Slices.{written}
 use Rattle.fit.specs.declared.Fitted.{Fitted}
 use Rattle.fit.specs.Fits.{fitFor, fitsFor}
-use Rattle.fit.specs.Doors.{fitForTests, fittedBy}
+use Rattle.fit.specs.Contracts.{fitForTests, fittedBy}
 use Rattle.markers.specs.Layout.{noLayout}
 use Rattle.frame.specs.Refusals.{lowestOf, check, frameOutside, sidesWrong, numberOf}
 use mathlib.Core.List.{[], _∷_}
@@ -28,7 +28,9 @@ returns c =
     let a = c .before .before .before .before .before .args in
     let f = frame (a .width) (a .height) (a .cell) (a .margin) in
     numbered _ _ _ _
-    (c .sides-first .ensures .0 ∙ sym (lowest-until 3 _ (check 5 (noLayout f) ∷ check 10 (not (fitsFor (a .w) (a .h) f (quadOf (a .points .now)) (a .k))) ∷ []) (check 1 (frameOutside f) ∷ check 2 (sidesWrong (a .w) (a .h)) ∷ []) (sym (c .before .before .short .ensures .0) ∙ c .before .if1 .taken)))
+    (c .sides-first .ensures .0 ∙ sym (lowest-until 3 _ (check 5 (noLayout f)
+    ∷ check 10 (not (fitsFor (a .w) (a .h) f (quadOf (a .points .now)) (a .k))) ∷ []) (check 1 (frameOutside f)
+    ∷ check 2 (sidesWrong (a .w) (a .h)) ∷ []) (sym (c .before .before .short .ensures .0) ∙ c .before .if1 .taken)))
     (c .sides-first .ensures .1)
 
 quad-requires : tie.Need-quad-requires
@@ -48,7 +50,9 @@ returns-2 c =
     let e = c .before .before .fit-for .ensures ∙ ap (λ q. fittedBy (fitForTests (a .w) (a .h) f q (a .k)) (fitFor (a .w) (a .h) f q (a .k))) (c .before .before .before .quad .ensures) in
     numbered _ _ _ _
     (c .before .number-of .ensures ∙ ap (λ (t : Fitted). numberOf (t .verdict)) e ∙ fitted-number _ _
-    ∙ sym (lowest-without 3 _ (check 5 (noLayout f) ∷ check 10 (not (fitsFor (a .w) (a .h) f (quadOf (a .points .now)) (a .k))) ∷ []) (check 1 (frameOutside f) ∷ check 2 (sidesWrong (a .w) (a .h)) ∷ []) (sym (c .before .before .before .before .before .short .ensures .0) ∙ c .before .before .before .before .if1 .left)))
+    ∙ sym (lowest-without 3 _ (check 5 (noLayout f) ∷ check 10 (not (fitsFor (a .w) (a .h) f (quadOf (a .points .now)) (a .k)))
+    ∷ []) (check 1 (frameOutside f) ∷ check 2 (sidesWrong (a .w) (a .h)) ∷ []) (sym (c .before .before .before .before .before .short
+    .ensures .0) ∙ c .before .before .before .before .if1 .left)))
     (c .if2 .taken)
 
 store-fit-requires : tie.Need-store-fit-requires
@@ -62,10 +66,17 @@ unfolding fitTests fitForTests fittedBy
 returns-3 c =
     let a = c .before .before .before .before .before .before .before .before .before .before .before .before .before .args in
     let f = frame (a .width) (a .height) (a .cell) (a .margin) in
-    let e = c .before .before .before .before .before .before .before .fit-for .ensures ∙ ap (λ q. fittedBy (fitForTests (a .w) (a .h) f q (a .k)) (fitFor (a .w) (a .h) f q (a .k))) (c .before .before .before .before .before .before .before .before .quad .ensures) in
-    let z : lowestOf (fitForTests (a .w) (a .h) f (quadOf (a .points .now)) (a .k)) ≡ 0 = sym (c .before .before .before .before .before .before .number-of .ensures ∙ ap (λ (t : Fitted). numberOf (t .verdict)) e ∙ fitted-number _ _) ∙ c .before .before .before .before .before .if2 .left in
+    let e = c .before .before .before .before .before .before .before .fit-for .ensures
+    ∙ ap (λ q. fittedBy (fitForTests (a .w) (a .h) f q (a .k)) (fitFor (a .w) (a .h) f q (a .k))) (c .before .before .before .before
+    .before .before .before .before .quad .ensures) in
+    let z : lowestOf (fitForTests (a .w) (a .h) f (quadOf (a .points .now)) (a .k)) ≡ 0 = sym (c .before .before .before .before .before
+    .before .number-of .ensures ∙ ap (λ (t : Fitted). numberOf (t .verdict)) e ∙ fitted-number _ _) ∙ c .before .before .before .before
+    .before .if2 .left in
     accepted _ _ _
-    (lowest-without 3 _ (check 5 (noLayout f) ∷ check 10 (not (fitsFor (a .w) (a .h) f (quadOf (a .points .now)) (a .k))) ∷ []) (check 1 (frameOutside f) ∷ check 2 (sidesWrong (a .w) (a .h)) ∷ []) (sym (c .before .before .before .before .before .before .before .before .before .before .short .ensures .0) ∙ c .before .before .before .before .before .before .before .before .before .if1 .left) ∙ z)
+    (lowest-without 3 _ (check 5 (noLayout f) ∷ check 10 (not (fitsFor (a .w) (a .h) f (quadOf (a .points .now)) (a .k)))
+    ∷ []) (check 1 (frameOutside f) ∷ check 2 (sidesWrong (a .w) (a .h)) ∷ []) (sym (c .before .before .before .before .before .before
+    .before .before .before .before .short .ensures .0) ∙ c .before .before .before .before .before .before .before .before .before .if1
+    .left) ∙ z)
     (c .before .before .store-fit .ensures ∙ ap (λ t. written (fitNumbers t) (a .fit .now)) (ap (λ (t : Fitted). t .fit) e ∙ fitted-fit _ _ z))
 
 pub tablet-fit-for-spec : {M : Type 1} → statement M

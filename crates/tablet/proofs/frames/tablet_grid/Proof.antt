@@ -30,7 +30,8 @@ unfolding cellsTests numberFor
 returns-2 c =
     let a = c .before .before .before .before .before .args in
     let f = frame (a .width) (a .height) (a .cell) (a .margin) in
-    let z : lowestOf (frameTests f) ≡ 0 = sym (c .before .before .count-number .ensures ∙ ap numberRefusal (c .before .before .before .cols .ensures) ∙ number-number _ _) ∙ c .before .if1 .left in
+    let z : lowestOf (frameTests f) ≡ 0 = sym (c .before .before .count-number .ensures ∙ ap numberRefusal (c .before .before .before .cols
+    .ensures) ∙ number-number _ _) ∙ c .before .if1 .left in
     refused _ _ _ 2 (lowest-past _ 0 _ (frame-rising f) z ∙ lowest-first 3 _ _ (lt-ltb _ _ (c .if2 .taken)))
 
 rows-requires : tie.Need-rows-requires
@@ -56,11 +57,17 @@ unfolding cellsTests numberFor
 returns-3 c =
     let a = c .before .before .before .before .before .before .before .before .before .before .before .before .before .args in
     let f = frame (a .width) (a .height) (a .cell) (a .margin) in
-    let z : lowestOf (frameTests f) ≡ 0 = sym (c .before .before .before .before .before .before .before .before .before .before .count-number .ensures ∙ ap numberRefusal (c .before .before .before .before .before .before .before .before .before .before .before .cols .ensures) ∙ number-number _ _) ∙ c .before .before .before .before .before .before .before .before .before .if1 .left in
-    let x : c .before .before .before .before .before .count-value .result ≡ spec.cols f = c .before .before .before .before .before .count-value .ensures ∙ ap numberValue (c .before .before .before .before .before .before .before .before .before .before .before .cols .ensures) ∙ number-value _ _ z in
-    let y : c .before .before .before .before .count-value2 .result ≡ spec.rows f = c .before .before .before .before .count-value2 .ensures ∙ ap numberValue (c .before .before .before .before .before .before .before .rows .ensures) ∙ number-value _ _ z in
+    let z : lowestOf (frameTests f) ≡ 0 = sym (c .before .before .before .before .before .before .before .before .before .before
+    .count-number .ensures ∙ ap numberRefusal (c .before .before .before .before .before .before .before .before .before .before .before
+    .cols .ensures) ∙ number-number _ _) ∙ c .before .before .before .before .before .before .before .before .before .if1 .left in
+    let x : c .before .before .before .before .before .count-value .result ≡ spec.cols f = c .before .before .before .before .before
+    .count-value .ensures ∙ ap numberValue (c .before .before .before .before .before .before .before .before .before .before .before
+    .cols .ensures) ∙ number-value _ _ z in
+    let y : c .before .before .before .before .count-value2 .result ≡ spec.rows f = c .before .before .before .before .count-value2 .ensures
+    ∙ ap numberValue (c .before .before .before .before .before .before .before .rows .ensures) ∙ number-value _ _ z in
     accepted _ _ _ (lowest-past _ 0 _ (frame-rising f) z ∙ lowest-next 3 _ _ (le-ltb _ _ (c .before .before .before .before .before .before .before .before .if2 .left)) ∙ lowest-none)
-    (c .before .before .store-counts .ensures ∙ ap (λ n. written (n ∷ c .before .before .before .before .count-value2 .result ∷ []) (a .numbers .now)) x ∙ ap (λ n. written (spec.cols f ∷ n ∷ []) (a .numbers .now)) y)
+    (c .before .before .store-counts .ensures ∙ ap (λ n. written (n ∷ c .before .before .before .before .count-value2 .result
+    ∷ []) (a .numbers .now)) x ∙ ap (λ n. written (spec.cols f ∷ n ∷ []) (a .numbers .now)) y)
 
 pub tablet-grid-spec : {M : Type 1} → statement M
 tablet-grid-spec =

@@ -5,7 +5,7 @@ use Rattle.tablet.specs.Layouts.{frame, quadNumbers}
 use Rattle.tablet.specs.Slices.{written}
 use Rattle.markers.proofs.Given.{centers-number, centers-value}
 use Rattle.markers.specs.Layout.{noLayout}
-use Rattle.markers.specs.Doors.{layoutTests}
+use Rattle.markers.specs.Contracts.{layoutTests}
 use Rattle.markers.specs.Answers.{centersRefusal, centersValue, centersFor}
 use Rattle.frame.specs.Refusals.{lowestOf, check, frameOutside}
 use borrow.Author.Tests.{lt-ltb, le-ltb}
@@ -23,7 +23,8 @@ unfolding centerTests frameFirst
 returns c =
     let a = c .before .before .before .args in
     let f = frame (a .width) (a .height) (a .cell) (a .margin) in
-    numbered _ _ _ _ (c .frame-first .ensures .0 ∙ sym (lowest-until 3 _ (check 5 (noLayout f) ∷ []) (check 1 (frameOutside f) ∷ []) (lt-ltb _ _ (c .before .if1 .taken)))) (c .frame-first .ensures .1)
+    numbered _ _ _ _ (c .frame-first .ensures .0 ∙ sym (lowest-until 3 _ (check 5 (noLayout f) ∷ []) (check 1 (frameOutside f)
+    ∷ []) (lt-ltb _ _ (c .before .if1 .taken)))) (c .frame-first .ensures .1)
 
 marker-centers-requires : tie.Need-marker-centers-requires
 marker-centers-requires c κs = search needs
@@ -36,7 +37,9 @@ unfolding centerTests layoutTests centersFor
 returns-2 c =
     let a = c .before .before .before .before .before .args in
     let f = frame (a .width) (a .height) (a .cell) (a .margin) in
-    numbered _ _ _ _ (c .before .centers-number .ensures ∙ ap centersRefusal (c .before .before .marker-centers .ensures) ∙ centers-number _ _ ∙ sym (lowest-without 3 _ (check 5 (noLayout f) ∷ []) (check 1 (frameOutside f) ∷ []) (le-ltb _ _ (c .before .before .before .if1 .left)))) (c .if2 .taken)
+    numbered _ _ _ _ (c .before .centers-number .ensures ∙ ap centersRefusal (c .before .before .marker-centers .ensures)
+    ∙ centers-number _ _ ∙ sym (lowest-without 3 _ (check 5 (noLayout f) ∷ []) (check 1 (frameOutside f)
+    ∷ []) (le-ltb _ _ (c .before .before .before .if1 .left)))) (c .if2 .taken)
 
 centers-value-requires : tie.Need-centers-value-requires
 centers-value-requires c κs = search needs
@@ -52,9 +55,13 @@ unfolding centerTests layoutTests centersFor
 returns-3 c =
     let a = c .before .before .before .before .before .before .before .before .before .before .args in
     let f = frame (a .width) (a .height) (a .cell) (a .margin) in
-    let z : lowestOf (layoutTests f) ≡ 0 = sym (c .before .before .before .before .before .before .centers-number .ensures ∙ ap centersRefusal (c .before .before .before .before .before .before .before .marker-centers .ensures) ∙ centers-number _ _) ∙ c .before .before .before .before .before .if2 .left in
-    let v = c .before .before .before .before .centers-value .ensures ∙ ap centersValue (c .before .before .before .before .before .before .before .marker-centers .ensures) ∙ centers-value _ _ z in
-    accepted _ _ _ (lowest-without 3 _ (check 5 (noLayout f) ∷ []) (check 1 (frameOutside f) ∷ []) (le-ltb _ _ (c .before .before .before .before .before .before .before .before .if1 .left)) ∙ z)
+    let z : lowestOf (layoutTests f) ≡ 0 = sym (c .before .before .before .before .before .before .centers-number .ensures
+    ∙ ap centersRefusal (c .before .before .before .before .before .before .before .marker-centers .ensures) ∙ centers-number _ _)
+    ∙ c .before .before .before .before .before .if2 .left in
+    let v = c .before .before .before .before .centers-value .ensures ∙ ap centersValue (c .before .before .before .before .before .before
+    .before .marker-centers .ensures) ∙ centers-value _ _ z in
+    accepted _ _ _ (lowest-without 3 _ (check 5 (noLayout f) ∷ []) (check 1 (frameOutside f) ∷ []) (le-ltb _ _ (c .before .before .before
+    .before .before .before .before .before .if1 .left)) ∙ z)
     (c .before .before .store-quad .ensures ∙ ap (λ q. written (quadNumbers q) (a .points .now)) v)
 
 pub tablet-marker-centers-spec : {M : Type 1} → statement M

@@ -6,7 +6,7 @@ use Rattle.frame.proofs.Lowest.{lowest-first, lowest-next, lowest-none}
 use Rattle.frame.proofs.Given.{number-number, number-value}
 use Rattle.markers.proofs.Given.{cell-rising}
 use Rattle.markers.specs.Layout.{markerSize, quietZone}
-use Rattle.markers.specs.Doors.{cellTests}
+use Rattle.markers.specs.Contracts.{cellTests}
 use Rattle.frame.specs.Refusals.{lowestOf}
 use Rattle.frame.specs.Answers.{numberRefusal, numberValue, numberFor}
 use mathlib.Core.List.{[], _∷_}
@@ -30,7 +30,8 @@ returns-2 : tie.Need-returns-2
 unfolding markerTests numberFor
 returns-2 c =
     let k = c .before .before .before .before .before .args .cell in
-    let z : lowestOf (cellTests k) ≡ 0 = sym (c .before .before .count-number .ensures ∙ ap numberRefusal (c .before .before .before .marker-size .ensures) ∙ number-number _ _) ∙ c .before .if1 .left in
+    let z : lowestOf (cellTests k) ≡ 0 = sym (c .before .before .count-number .ensures ∙ ap numberRefusal (c .before .before .before
+    .marker-size .ensures) ∙ number-number _ _) ∙ c .before .if1 .left in
     refused _ _ _ 2 (lowest-past _ 0 _ (cell-rising k) z ∙ lowest-first 3 _ _ (lt-ltb _ _ (c .if2 .taken)))
 
 quiet-zone-requires : tie.Need-quiet-zone-requires
@@ -62,11 +63,18 @@ unfolding markerTests numberFor
 returns-3 c =
     let a = c .before .before .before .before .before .before .before .before .before .before .before .before .before .before .before .args in
     let k = a .cell in
-    let z : lowestOf (cellTests k) ≡ 0 = sym (c .before .before .before .before .before .before .before .before .before .before .before .before .count-number .ensures ∙ ap numberRefusal (c .before .before .before .before .before .before .before .before .before .before .before .before .before .marker-size .ensures) ∙ number-number _ _) ∙ c .before .before .before .before .before .before .before .before .before .before .before .if1 .left in
-    let x = c .before .before .before .before .before .before .count-value .ensures ∙ ap numberValue (c .before .before .before .before .before .before .before .before .before .before .before .before .before .marker-size .ensures) ∙ number-value _ _ z in
-    let y = c .before .before .before .before .before .count-value2 .ensures ∙ ap numberValue (c .before .before .before .before .before .before .before .before .before .quiet-zone .ensures) ∙ number-value _ _ z in
-    let m = c .before .before .before .before .count-value3 .ensures ∙ ap numberValue (c .before .before .before .before .before .before .before .before .margin-for .ensures) ∙ number-value _ _ z in
-    accepted _ _ _ (lowest-past _ 0 _ (cell-rising k) z ∙ lowest-next 3 _ _ (le-ltb _ _ (c .before .before .before .before .before .before .before .before .before .before .if2 .left)) ∙ lowest-none)
+    let z : lowestOf (cellTests k) ≡ 0 = sym (c .before .before .before .before .before .before .before .before .before .before .before
+    .before .count-number .ensures ∙ ap numberRefusal (c .before .before .before .before .before .before .before .before .before .before
+    .before .before .before .marker-size .ensures) ∙ number-number _ _) ∙ c .before .before .before .before .before .before .before
+    .before .before .before .before .if1 .left in
+    let x = c .before .before .before .before .before .before .count-value .ensures ∙ ap numberValue (c .before .before .before .before
+    .before .before .before .before .before .before .before .before .before .marker-size .ensures) ∙ number-value _ _ z in
+    let y = c .before .before .before .before .before .count-value2 .ensures ∙ ap numberValue (c .before .before .before .before .before
+    .before .before .before .before .quiet-zone .ensures) ∙ number-value _ _ z in
+    let m = c .before .before .before .before .count-value3 .ensures ∙ ap numberValue (c .before .before .before .before .before .before
+    .before .before .margin-for .ensures) ∙ number-value _ _ z in
+    accepted _ _ _ (lowest-past _ 0 _ (cell-rising k) z ∙ lowest-next 3 _ _ (le-ltb _ _ (c .before .before .before .before .before .before
+    .before .before .before .before .if2 .left)) ∙ lowest-none)
     (c .before .before .store-counts .ensures
     ∙ ap (λ n. written (n ∷ c .before .before .before .before .before .count-value2 .result ∷ c .before .before .before .before .count-value3 .result ∷ []) (a .numbers .now)) x
     ∙ ap (λ n. written (markerSize k ∷ n ∷ c .before .before .before .before .count-value3 .result ∷ []) (a .numbers .now)) y

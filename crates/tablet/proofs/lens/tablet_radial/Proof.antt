@@ -27,7 +27,8 @@ returns-2 : tie.Need-returns-2
 unfolding lensTests newLens
 returns-2 c =
     let a = c .before .before .before .before .before .args in
-    let z : lowestOf (sideTests (a .w) (a .h)) ≡ 0 = sym (c .before .before .lens-number .ensures ∙ ap lensRefusal (c .before .before .before .new .ensures) ∙ lens-number _ _) ∙ c .before .if1 .left in
+    let z : lowestOf (sideTests (a .w) (a .h)) ≡ 0 = sym (c .before .before .lens-number .ensures
+    ∙ ap lensRefusal (c .before .before .before .new .ensures) ∙ lens-number _ _) ∙ c .before .if1 .left in
     refused _ _ _ 2 (lowest-past _ 0 _ (side-rising (a .w) (a .h)) z ∙ lowest-first 3 _ _ (lt-ltb _ _ (c .if2 .taken)))
 
 lens-value-requires : tie.Need-lens-value-requires
@@ -43,8 +44,11 @@ returns-3 : tie.Need-returns-3
 unfolding lensTests newLens
 returns-3 c =
     let a = c .before .before .before .before .before .before .before .before .before .before .args in
-    let z : lowestOf (sideTests (a .w) (a .h)) ≡ 0 = sym (c .before .before .before .before .before .before .before .lens-number .ensures ∙ ap lensRefusal (c .before .before .before .before .before .before .before .before .new .ensures) ∙ lens-number _ _) ∙ c .before .before .before .before .before .before .if1 .left in
-    let v = c .before .before .before .before .lens-value .ensures ∙ ap lensValue (c .before .before .before .before .before .before .before .before .new .ensures ∙ ap (λ n. lensAs n (radial (a .w) (a .h) (a .k))) z) ∙ lens-value _ in
+    let z : lowestOf (sideTests (a .w) (a .h)) ≡ 0 = sym (c .before .before .before .before .before .before .before .lens-number .ensures
+    ∙ ap lensRefusal (c .before .before .before .before .before .before .before .before .new .ensures) ∙ lens-number _ _)
+    ∙ c .before .before .before .before .before .before .if1 .left in
+    let v = c .before .before .before .before .lens-value .ensures ∙ ap lensValue (c .before .before .before .before .before .before .before
+    .before .new .ensures ∙ ap (λ n. lensAs n (radial (a .w) (a .h) (a .k))) z) ∙ lens-value _ in
     accepted _ _ _ (lowest-past _ 0 _ (side-rising (a .w) (a .h)) z ∙ lowest-next 3 _ _ (le-ltb _ _ (c .before .before .before .before .before .if2 .left)) ∙ lowest-none)
     (c .before .before .store-lens .ensures ∙ ap (λ l. written (lensNumbers l) (a .lens .now)) v)
 

@@ -34,8 +34,11 @@ returns-2 : tie.Need-returns-2
 unfolding moveTests
 returns-2 c =
     let a = c .before .before .before .before .before .before .before .before .before .before .args in
-    accepted _ _ _ (lowest-next 3 _ _ (sym (c .before .before .before .before .before .before .before .short .ensures .0) ∙ c .before .before .before .before .before .before .if1 .left) ∙ lowest-none)
-    (c .before .before .store-point .ensures ∙ ap (λ p. written (pointNumbers p) (a .point .now)) (c .before .before .before .before .undistort .ensures ∙ ap (λ l. model.undistort l (record { x = a .x; y = a .y })) (c .before .before .before .before .before .lens .ensures)))
+    accepted _ _ _ (lowest-next 3 _ _ (sym (c .before .before .before .before .before .before .before .short .ensures .0)
+    ∙ c .before .before .before .before .before .before .if1 .left) ∙ lowest-none)
+    (c .before .before .store-point .ensures ∙ ap (λ p. written (pointNumbers p) (a .point .now)) (c .before .before .before .before
+    .undistort .ensures ∙ ap (λ l. model.undistort l (record { x = a .x; y = a .y })) (c .before .before .before .before .before .lens
+    .ensures)))
 
 pub tablet-undistort-spec : {M : Type 1} → statement M
 tablet-undistort-spec =

@@ -29,7 +29,13 @@ same-length c = search needs
 
 returns-2 : tie.Need-returns-2
 unfolding listNumbers placeNumbers
-returns-2 c = (c .before .before .before .before .before .before .before .before .before .number-of .ensures, c .before .before .before .store-counts .ensures ∙ told-all _ _ _ (sym (c .before .before .before .before .before .before .before .before .untouched .ensures) ∙ c .before .before .before .before .before .before .before .if1 .left), answered-refused _ _ (c .if2 .taken))
+returns-2 c = (
+  c .before .before .before .before .before .before .before .before .before .number-of .ensures,
+  c .before .before .before
+      .store-counts .ensures ∙ told-all _ _ _ (sym (c .before .before .before .before .before .before .before .before .untouched .ensures)
+      ∙ c .before .before .before .before .before .before .before .if1 .left),
+  answered-refused _ _ (c .if2 .taken),
+)
 
 store-quad-requires : tie.Need-store-quad-requires
 store-quad-requires c κs = search needs
@@ -43,8 +49,13 @@ same-length-3 c = search needs
 returns-3 : tie.Need-returns-3
 unfolding answered listNumbers placeNumbers
 returns-3 c =
-    let z = c .before .before .before .before .before .if2 .left in
-    (sym z ∙ c .before .before .before .before .before .before .before .before .before .before .before .before .before .before .number-of .ensures, c .before .before .before .before .before .before .before .before .store-counts .ensures ∙ told-all _ _ _ refl, c .before .before .store-quad .ensures)
+    let z = c .before .before .before .before .before .if2 .left in (
+      sym z ∙ c .before .before .before .before .before .before .before .before .before .before .before .before .before .before .number-of
+          .ensures,
+      c .before .before .before .before .before .before .before .before .store-counts .ensures ∙ told-all _ _ _ refl,
+      c .before
+          .before .store-quad .ensures,
+    )
 
 pub answer-detected-spec : {M : Type 1} → statement M
 answer-detected-spec =

@@ -20,7 +20,11 @@ same-length c = search needs
 
 returns-2 : tie.Need-returns-2
 unfolding answered
-returns-2 c = (sym (c .before .before .before .before .before .before .if1 .left) ∙ c .before .before .before .before .before .before .before .number-of .ensures, c .before .before .store-matrix .ensures)
+returns-2 c = (
+  sym (c .before .before .before .before .before .before .if1 .left) ∙ c .before .before .before .before .before .before
+      .before .number-of .ensures,
+  c .before .before .store-matrix .ensures,
+)
 
 pub answer-spec : {M : Type 1} → statement M
 answer-spec =

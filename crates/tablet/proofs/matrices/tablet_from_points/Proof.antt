@@ -44,7 +44,8 @@ returns-2 c =
     ∙ ap (dlt.fromPoints (quadOf (a .source .now))) (c .before .before .before .before .before .quad2 .ensures) in
     let n = c .before .before .answer .ensures in
     record {
-      number = n .0 ∙ points-number _ _ _ s ∙ sym (lowest-next 3 _ _ (sym (c .before .before .before .before .before .before .before .before .short3 .ensures .0) ∙ c .before .before .before .before .before .before .before .if1 .left));
+      number = n .0 ∙ points-number _ _ _ s ∙ sym (lowest-next 3 _ _ (sym (c .before .before .before .before .before .before .before .before
+          .short3 .ensures .0) ∙ c .before .before .before .before .before .before .before .if1 .left));
       result = n .1 ∙ ap (λ (g : Solved). answered (c .before .before .answer .result) (matrixNumbers (g .h .m)) (a .matrix .now)) s;
     }
 

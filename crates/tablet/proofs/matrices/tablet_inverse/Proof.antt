@@ -38,7 +38,8 @@ returns-2 c =
     let s = c .before .before .before .before .inverse .ensures ∙ ap mat.inverse (c .before .before .before .before .before .matrix .ensures) in
     let n = c .before .before .answer .ensures in
     record {
-      number = n .0 ∙ inverse-number _ _ s ∙ sym (lowest-next 3 _ _ (sym (c .before .before .before .before .before .before .before .short .ensures .0) ∙ c .before .before .before .before .before .before .if1 .left));
+      number = n .0 ∙ inverse-number _ _ s ∙ sym (lowest-next 3 _ _ (sym (c .before .before .before .before .before .before .before .short
+          .ensures .0) ∙ c .before .before .before .before .before .before .if1 .left));
       result = n .1 ∙ ap (λ (g : Solved). answered (c .before .before .answer .result) (matrixNumbers (g .h .m)) (a .result .now)) s;
     }
 

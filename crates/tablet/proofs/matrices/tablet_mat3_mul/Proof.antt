@@ -29,7 +29,8 @@ mat3-mul-requires : tie.Need-mat3-mul-requires
 mat3-mul-requires c κs = search needs
 
 store-matrix-requires : tie.Need-store-matrix-requires
-store-matrix-requires c κs = (c .before .before .before .before .before .before .before .before .before .short3 .ensures .1 (c .before .before .before .before .before .before .before .before .if1 .left)) .2
+store-matrix-requires c κs = (c .before .before .before .before .before .before .before .before .before .short3 .ensures .1
+    (c .before .before .before .before .before .before .before .before .if1 .left)) .2
 
 same-length : tie.Need-same-length
 same-length c = search needs
@@ -39,7 +40,9 @@ unfolding productTests
 returns-2 c =
     let a = c .before .before .before .before .before .before .before .before .before .before .before .before .before .before .before .before .args in
     let y = c .before .before .before .before .before .before .before .before .before .matrix2 .result .m in
-    accepted _ _ _ (lowest-next 3 _ _ (sym (c .before .before .before .before .before .before .before .before .before .before .before .before .short3 .ensures .0) ∙ c .before .before .before .before .before .before .before .before .before .before .before .if1 .left) ∙ lowest-none)
+    accepted _ _ _ (lowest-next 3 _ _ (sym (c .before .before .before .before .before .before .before .before .before .before .before
+    .before .short3 .ensures .0) ∙ c .before .before .before .before .before .before .before .before .before .before .before .if1 .left)
+    ∙ lowest-none)
     (c .before .before .store-matrix .ensures
     ∙ ap (λ m. written (matrixNumbers m) (a .result .now))
     (c .before .before .before .before .mat3-mul .ensures

@@ -41,7 +41,8 @@ returns-2 : tie.Need-returns-2
 unfolding errorTests
 returns-2 c =
     let a = c .before .before .before .before .before .before .before .before .before .before .before .before .before .args in
-    accepted _ _ _ (lowest-next 3 _ _ (sym (c .before .before .before .before .before .before .before .before .before .short3 .ensures .0) ∙ c .before .before .before .before .before .before .before .before .if1 .left) ∙ lowest-none)
+    accepted _ _ _ (lowest-next 3 _ _ (sym (c .before .before .before .before .before .before .before .before .before .short3 .ensures .0)
+    ∙ c .before .before .before .before .before .before .before .before .if1 .left) ∙ lowest-none)
     (c .before .before .store .ensures
     ∙ ap (λ e. written (e ∷ []) (a .result .now))
     (c .before .before .before .before .before .rms-error .ensures

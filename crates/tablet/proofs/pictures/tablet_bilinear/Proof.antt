@@ -30,7 +30,8 @@ unfolding colourTests colourFor
 returns-2 c =
     let a = c .before .before .before .before .before .before .args in
     let img = image (a .w) (a .h) (a .capture .now) in
-    let z : lowestOf (captureTests img) ≡ 0 = sym (c .before .before .colour-number .ensures ∙ ap colourRefusal (c .before .before .before .bilinear .ensures) ∙ colour-number _ _) ∙ c .before .if1 .left in
+    let z : lowestOf (captureTests img) ≡ 0 = sym (c .before .before .colour-number .ensures ∙ ap colourRefusal (c .before .before .before
+    .bilinear .ensures) ∙ colour-number _ _) ∙ c .before .if1 .left in
     refused _ _ _ 2 (lowest-past _ 0 _ (capture-rising img) z ∙ lowest-first 3 _ _ (lt-ltb _ _ (c .if2 .taken)))
 
 colour-value-requires : tie.Need-colour-value-requires
@@ -50,8 +51,11 @@ unfolding colourTests colourFor colourNumbers
 returns-3 c =
     let a = c .before .before .before .before .before .before .before .before .before .before .before .before .args in
     let img = image (a .w) (a .h) (a .capture .now) in
-    let z : lowestOf (captureTests img) ≡ 0 = sym (c .before .before .before .before .before .before .before .before .colour-number .ensures ∙ ap colourRefusal (c .before .before .before .before .before .before .before .before .before .bilinear .ensures) ∙ colour-number _ _) ∙ c .before .before .before .before .before .before .before .if1 .left in
-    let v = c .before .before .before .before .before .colour-value .ensures ∙ ap colourValue (c .before .before .before .before .before .before .before .before .before .bilinear .ensures) ∙ colour-value _ _ z in
+    let z : lowestOf (captureTests img) ≡ 0 = sym (c .before .before .before .before .before .before .before .before .colour-number .ensures
+    ∙ ap colourRefusal (c .before .before .before .before .before .before .before .before .before .bilinear .ensures)
+    ∙ colour-number _ _) ∙ c .before .before .before .before .before .before .before .if1 .left in
+    let v = c .before .before .before .before .before .colour-value .ensures ∙ ap colourValue (c .before .before .before .before .before
+    .before .before .before .before .bilinear .ensures) ∙ colour-value _ _ z in
     accepted _ _ _ (lowest-past _ 0 _ (capture-rising img) z ∙ lowest-next 3 _ _ (le-ltb _ _ (c .before .before .before .before .before .before .if2 .left)) ∙ lowest-none)
     (c .before .before .store-bytes .ensures ∙ ap (λ (k : Rgb). written (colourNumbers k) (a .colour .now)) v)
 

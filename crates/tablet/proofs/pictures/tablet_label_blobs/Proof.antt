@@ -64,7 +64,9 @@ returns-3 c =
     (record {
       patches = c .before .before .before .before .before .before .before .before .before .before .before .before .before .label-blobs .result .patches;
       most = c .before .before .before .before .before .before .before .before .before .before .before .before .before .label-blobs .result .waiting;
-      labelling = labelling _ _ _ _ _ _ _ _ _ _ _ _ _ (sym (c .before .before .before .before .before .if2 .left) ∙ c .before .before .before .before .before .before .number-of .ensures) (c .before .before .before .before .before .before .before .before .before .before .before .before .before .label-blobs .ensures);
+      labelling = labelling _ _ _ _ _ _ _ _ _ _ _ _ _ (sym (c .before .before .before .before .before .if2 .left)
+          ∙ c .before .before .before .before .before .before .number-of .ensures) (c .before .before .before .before .before .before
+          .before .before .before .before .before .before .before .label-blobs .ensures);
       counts-are = c .before .before .store-counts .ensures;
     })
 

@@ -26,7 +26,8 @@ same-length : tie.Need-same-length
 same-length c = search needs
 
 returns-2 : tie.Need-returns-2
-returns-2 c = over-done (le-ltb _ _ (c .before .before .before .before .before .before .if1 .left)) (warping _ _ _ _ _ _ _ _ (c .before .before .before .before .before .fit .ensures) (c .number-of .ensures) (c .before .before .before .warp-with .ensures))
+returns-2 c = over-done (le-ltb _ _ (c .before .before .before .before .before .before .if1 .left)) (warping _ _ _ _ _ _ _ _
+    (c .before .before .before .before .before .fit .ensures) (c .number-of .ensures) (c .before .before .before .warp-with .ensures))
 
 pub tablet-warp-with-spec : {M : Type 1} → statement M
 tablet-warp-with-spec =

@@ -9,8 +9,15 @@ use Rattle.tablet.proofs.slices.short3.Tie as tie
 
 returns : tie.Need-returns
 returns c =
-    let a = c .args in
-    (refl, λ e. (ltb-false _ _ (or-left _ (ltb (a .b) (a .n)) (or-left _ _ e)), ltb-false _ _ (or-right (ltb (a .a) (a .m)) _ (or-left _ _ e)), ltb-false _ _ (or-right (ltb (a .a) (a .m) || ltb (a .b) (a .n)) _ e)))
+    let a = c .args in (
+      refl,
+      λ e. (
+        ltb-false _ _ (or-left _ (ltb (a .b) (a .n)) (or-left _ _ e)),
+        ltb-false _ _ (or-right (ltb (a .a) (a .m)) _ (or-left _ _
+            e)),
+        ltb-false _ _ (or-right (ltb (a .a) (a .m) || ltb (a .b) (a .n)) _ e),
+      ),
+    )
 
 pub short3-spec : {M : Type 1} → statement M
 short3-spec = tie.close (tie.spec returns)

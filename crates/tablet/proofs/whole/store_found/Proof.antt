@@ -29,7 +29,9 @@ returns c =
     let a = c .before .before .before .before .before .before .before .before .before .args .a in
     let s = a .places in
     c .before .before .store-counts .ensures
-    ∙ (λ i. written (a .patches ∷ a .candidates ∷ a .waiting ∷ s .tl ∷ s .tr ∷ s .br ∷ s .bl ∷ a .tried ∷ a .homographies ∷ c .before .before .before .before .before .before .kept-number .ensures i ∷ c .before .before .before .before .before .kept-cell .ensures i ∷ []) (c .before .before .before .before .before .before .before .before .before .args .counts .now))
+    ∙ (λ i. written (a .patches ∷ a .candidates ∷ a .waiting ∷ s .tl ∷ s .tr ∷ s .br ∷ s .bl ∷ a .tried ∷ a .homographies
+    ∷ c .before .before .before .before .before .before .kept-number .ensures i ∷ c .before .before .before .before .before .kept-cell
+    .ensures i ∷ []) (c .before .before .before .before .before .before .before .before .before .args .counts .now))
 
 pub store-found-spec : {M : Type 1} → statement M
 store-found-spec = tie.close (tie.spec kept-number-requires kept-cell-requires slice-aggregate-store-counts store-counts-requires same-length returns)

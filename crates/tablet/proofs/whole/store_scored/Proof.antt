@@ -50,7 +50,9 @@ same-length c = search needs
 
 returns : tie.Need-returns
 unfolding scoredFit fitNumbers matrixNumbers lensNumbers
-returns c = c .before .before .store .ensures ∙ ap (λ (s : Float). written (fitNumbers (c .before .before .before .before .before .before .before .before .before .before .before .args .a .fit) ++ (s ∷ [])) (c .before .before .before .before .before .before .before .before .before .before .before .args .fit .now)) (c .before .before .before .before .before .kept-score .ensures)
+returns c = c .before .before .store .ensures ∙ ap (λ (s : Float). written (fitNumbers (c .before .before .before .before .before .before
+    .before .before .before .before .before .args .a .fit) ++ (s ∷ [])) (c .before .before .before .before .before .before .before .before
+    .before .before .before .args .fit .now)) (c .before .before .before .before .before .kept-score .ensures)
 
 pub store-scored-spec : {M : Type 1} → statement M
 store-scored-spec =

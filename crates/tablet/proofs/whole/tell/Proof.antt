@@ -21,7 +21,9 @@ same-length : tie.Need-same-length
 same-length c = search needs
 
 returns-2 : tie.Need-returns-2
-returns-2 c = told-refused _ _ _ _ (c .before .before .before .before .before .before .before .number-of .ensures) _ (c .before .before .before .store-found .ensures) (sym (c .before .before .before .before .before .before .untouched .ensures) ∙ c .before .before .before .before .before .if1 .left) (c .if2 .taken)
+returns-2 c = told-refused _ _ _ _ (c .before .before .before .before .before .before .before .number-of .ensures) _ (c .before .before
+    .before .store-found .ensures) (sym (c .before .before .before .before .before .before .untouched .ensures)
+    ∙ c .before .before .before .before .before .if1 .left) (c .if2 .taken)
 
 store-scored-requires : tie.Need-store-scored-requires
 store-scored-requires c κs = search needs
@@ -33,7 +35,9 @@ same-length-3 : tie.Need-same-length-3
 same-length-3 c = search needs
 
 returns-3 : tie.Need-returns-3
-returns-3 c = told-accepted _ _ _ _ (c .before .before .before .before .before .before .before .before .before .before .before .number-of .ensures) _ (c .before .before .before .before .before .before .before .store-found .ensures) _ (c .before .before .before .before .if2 .left) (c .before .before .store-scored .ensures)
+returns-3 c = told-accepted _ _ _ _ (c .before .before .before .before .before .before .before .before .before .before .before .number-of
+    .ensures) _ (c .before .before .before .before .before .before .before .store-found .ensures) _ (c .before .before .before .before .if2
+    .left) (c .before .before .store-scored .ensures)
 
 pub tell-spec : {M : Type 1} → statement M
 tell-spec =

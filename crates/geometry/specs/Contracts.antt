@@ -1,0 +1,32 @@
+-- What `warp_with` does. Assumes nothing.
+use Prim.Native.Nat.{ℕ, _*_, _≤_}
+use mathlib.Core.Path.{_≡_}
+use mathlib.Core.Bool.{Bool, not}
+use mathlib.Core.List.{List, [], _∷_}
+use lib.Dec.{eqb}
+use lib.ListN.{length}
+use Rattle.frame.specs.Image.{Image}
+use Rattle.frame.specs.Refusals.{verdictOf, Check, check, lowestOf, frameOutside, captureWrong}
+use Rattle.geometry.specs.Warp.{warped}
+use Rattle.frame.specs.declared.FrameSpec.{FrameSpec}
+use Rattle.frame.specs.declared.Verdict.{Verdict}
+use Rattle.fit.specs.declared.GeometryFit.{GeometryFit}
+
+-- "4: canonical image length is not 3·width·height"
+abbrev pub canonicalLength : FrameSpec → ℕ
+canonicalLength f = 3 * f .width * f .height
+
+unfoldable pub canonicalWrong : FrameSpec → ℕ → Bool
+canonicalWrong f n = not (eqb n (canonicalLength f))
+
+-- `warp_with`: "neither" 5 nor 6
+unfoldable pub warpTests : Image → FrameSpec → List ℕ → List Check
+warpTests img f canonical =
+    check 1 (frameOutside f) ∷ check 2 (captureWrong img) ∷ check 4 (canonicalWrong f (length canonical)) ∷ []
+
+-- ---- `warp_with`
+pub record Warping (img : Image) (f : FrameSpec) (fit : GeometryFit) (canonical canonical′ : List ℕ) (v : Verdict)
+    : Type 0 where
+  pub given : v ≡ verdictOf (lowestOf (warpTests img f canonical))
+  pub accepted : lowestOf (warpTests img f canonical) ≡ 0 → canonical′ ≡ warped img f fit canonical
+  pub refused : 1 ≤ lowestOf (warpTests img f canonical) → canonical′ ≡ canonical

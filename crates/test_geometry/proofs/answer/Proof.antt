@@ -1,0 +1,39 @@
+-- `test_geometry::answer` is safe: it lends the areas and a part of the canonical image. Assumes nothing.
+use native.Mathlib.Omega.{arith}
+use lib.ListN.{length-take}
+use borrow.Author.Needs.{needs}
+use Rattle.test_geometry.proofs.answer.Statement.{statement}
+use Rattle.test_geometry.proofs.answer.Tie as tie
+
+headed-requires : tie.Need-headed-requires
+headed-requires c κs = tt
+
+head-requires : tie.Need-head-requires
+head-requires c κs = tt
+
+slice-relend-prefix-rectify : tie.Need-slice-relend-prefix-rectify
+slice-relend-prefix-rectify c = search needs
+
+slice-aggregate-rectify : tie.Need-slice-aggregate-rectify
+slice-aggregate-rectify c = simp length-take (omega arith)
+
+rectify-requires : tie.Need-rectify-requires
+rectify-requires c κs = tt
+
+answer-requires : tie.Need-answer-requires
+answer-requires c κs = tt
+
+returns : tie.Need-returns
+returns c = tt
+
+pub answer-spec : {M : Type 1} → statement M
+answer-spec =
+    tie.close
+    (tie.spec
+    headed-requires
+    head-requires
+    slice-relend-prefix-rectify
+    slice-aggregate-rectify
+    rectify-requires
+    answer-requires
+    returns)
