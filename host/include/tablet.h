@@ -77,7 +77,7 @@ enum {
 enum {
     TABLET_PATCHES = 0,
     TABLET_CANDIDATES = 1,
-    TABLET_WAITING = 2, /* the most pixels that waited at once */
+    TABLET_WAITED = 2, /* the most pixels that waited at once */
     TABLET_PLACE_TL = 3, /* the four corners' places in patches */
     TABLET_PLACE_TR = 4,
     TABLET_PLACE_BR = 5,
@@ -152,7 +152,7 @@ uint32_t tablet_fiducial_candidates(const uint8_t *capture, size_t capture_len, 
                                     uint64_t *counts, size_t counts_len);
 
 /* The patches of a mask, exactly w * h bytes, any nonzero byte dark; seen becomes 1 where dark, else 0. 2, 3.
- * counts: TABLET_LABELLED_LEN, number of patches and most waiting. */
+ * counts: TABLET_LABELLED_LEN, number of patches and most pixels that waited. */
 uint32_t tablet_label_blobs(const uint8_t *mask, size_t mask_len, size_t w, size_t h,
                             uint8_t *seen, size_t seen_len, uint32_t *waiting, size_t waiting_len,
                             uint64_t *patches, size_t patches_len, uint64_t *counts, size_t counts_len);

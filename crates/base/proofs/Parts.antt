@@ -1,15 +1,25 @@
--- A part of a list that was lent, filled and put back: `&mut a[..m]` and `&mut a[n..e]`. Assumes nothing.
-use mathlib.Core.Path.{_≡_, refl, sym, ap, _∙_}
+-- A part of a list that was lent and put back: `&mut a[..m]` and `&mut a[n..e]`; what it leaves of the rest. Assumes nothing.
+use mathlib.Core.Path.{_≡_, refl, sym, ap, subst, _∙_}
 use mathlib.Core.List.{List, [], _∷_, _++_}
-use Prim.Native.Nat.{ℕ, zero, suc, _+_, _≤_, _<_}
+use Prim.Native.Nat.{ℕ, zero, suc, _+_, _-_, _≤_, _<_}
 use native.Mathlib.Nat.{zero-add, suc-add}
 use native.Mathlib.Omega.{arith}
 use lib.ListN.{length, take, drop, set, length-drop, take-append-drop}
-use lib.Seq.{set-append-left, length-take-le}
+use lib.Seq.{set-append-left, length-take-le, drop-at, drop-drop}
 use borrow.Rule.Slice.PartMut.{midOf, postOf, putMid, put-same}
 use Rattle.base.specs.Loops.{turns, fillAt, filled}
 use Rattle.base.proofs.Turns.{turns-add}
 use Rattle.base.proofs.Plane.{length-filled, filled-begin, filled-suc}
+
+-- what agrees from a on agrees from b on
+pub drop-later : {A : Type 0} (a b : ℕ) (k l : List A) → a ≤ b → drop a k ≡ drop a l → drop b k ≡ drop b l
+drop-later a b k l h e =
+    let g : a + (b - a) ≡ b = omega arith in
+    subst (λ n. drop n k ≡ drop n l) g (sym (drop-drop (b - a) a k) ∙ ap (drop (b - a)) e ∙ drop-drop (b - a) a l)
+
+-- the first n lent, and back as x: the rest is as it was
+pub lent-rest : {A : Type 0} (x l : List A) (n m : ℕ) → n ≤ length l → length x ≡ length (take n l) → n ≡ m → drop m (x ++ drop n l) ≡ drop m l
+lent-rest x l n m h e p = drop-at x (drop n l) m (e ∙ length-take-le n l h ∙ p) ∙ ap (λ k. drop k l) p
 
 set-append-right : {A : Type 0} (xs ys : List A) (j : ℕ) (v : A) → set (xs ++ ys) (length xs + j) v ≡ xs ++ set ys j v
 set-append-right [] ys j v = ap (λ i. set ys i v) (zero-add j)

@@ -1,25 +1,16 @@
 -- Laws of `filled`, by which a loop writes a plane, and of `byRow`. Assumes nothing.
 use mathlib.Core.Path.{_≡_, refl, sym, ap, _∙_, subst⁻¹}
 use mathlib.Core.List.{List}
-use mathlib.Core.Logic.{_⊎_, inl, inr, ⊎-elim}
-use mathlib.Core.Bool.{Bool, true, false}
-use lib.Dec.{leb}
-use borrow.Author.Tests.{leb-true, leb-false}
+use mathlib.Core.Logic.{⊎-elim}
 use Prim.Native.Nat.{ℕ, zero, suc, _+_, _*_, _/_, _≤_, _<_}
 use native.Mathlib.Omega.{arith}
 use lib.ListN.{length, getD, set, length-set}
 use lib.Seq.{getD-set-same, getD-set-other, ext-getD}
 use Rattle.base.specs.Loops.{turns, fillAt, filled, byRow}
 use Rattle.base.proofs.Turns.{turns-begin, turns-step, turns-keep, turns-cong}
+use Rattle.base.proofs.Arith.{le-or-lt}
 use lib.Arith.{digits-div, digits-mod}
 use native.Mathlib.Nat.{eq-or-lt-of-le}
-
-pub le-or-lt : (n k : ℕ) → (n ≤ k) ⊎ (k < n)
-le-or-lt n k = by-test (leb n k) refl
-  where
-    by-test : (t : Bool) → leb n k ≡ t → (n ≤ k) ⊎ (k < n)
-    by-test true e = inl (leb-true n k e)
-    by-test false e = inr (leb-false n k e)
 
 module _ {A : Type 0} (f : ℕ → A) (l : List A) where
   -- a loop's first head, a turn, and the end

@@ -1,6 +1,6 @@
 -- Laws of `table`. Assumes nothing.
 use mathlib.Core.Path.{_≡_, refl, sym, ap, _∙_}
-use mathlib.Core.List.{List, _++_}
+use mathlib.Core.List.{List, [], _∷_, _++_}
 use Prim.Native.Nat.{ℕ, zero, suc, _+_, _-_, _≤_, _<_}
 use native.Mathlib.Omega.{arith}
 use lib.ListN.{length, getD, take, drop, length-append, length-drop, List·getD-append}
@@ -18,6 +18,12 @@ unfolding table
 table-at f zero k d h = absurd (omega arith)
 table-at f (suc n) zero d h = refl
 table-at f (suc n) (suc k) d h = table-at (λ j. f (suc j)) n k d (omega arith)
+
+-- one entry more
+pub table-more : {A : Type 0} (f : ℕ → A) (n : ℕ) → table f (suc n) ≡ table f n ++ (f n ∷ [])
+unfolding table
+table-more f zero = refl
+table-more f (suc n) = ap (λ l. f 0 ∷ l) (table-more (λ k. f (suc k)) n)
 
 module _ {A : Type 0} (f : ℕ → A) where
   -- a list that agrees is the table

@@ -50,8 +50,8 @@ pub record Progress (m : List ℕ) (w a : ℕ) (s₀ : List ℕ) (f : Flooding) 
   pub x1 : Hit m w a (column w) (f .blob .x1)
   pub y0 : Hit m w a (row w) (f .blob .y0)
   pub y1 : Hit m w a (row w) (f .blob .y1)
-  pub some : 1 ≤ f .most
-  pub most : total one (at s₀) (length m) + f .most ≤ total one (at (f .seen)) (length m)
+  pub some : 1 ≤ f .waited
+  pub waited-held : total one (at s₀) (length m) + f .waited ≤ total one (at (f .seen)) (length m)
 
 -- ---- the start
 progress-start : {m : List ℕ} {w a : ℕ} {s : List ℕ} → Ready m w s a → Progress m w a s (begun w a s)
@@ -73,7 +73,7 @@ progress-start {m} {w} {a} {s} g =
       y0 = (a, me, refl);
       y1 = (a, me, refl);
       some = omega arith;
-      most = omega (arith, more one);
+      waited-held = omega (arith, more one);
     }
   where
     i : a < length s
@@ -155,7 +155,7 @@ module _ {m : List ℕ} {w a : ℕ} {s₀ : List ℕ} (pix : Pixel m w a) (f : F
       (λ x. inr (x .0, ⊎-elim (λ y. wait q (subst (Waits q) fe y)) (λ y. inr (λ u tu du. r .keeps u (y .0 u tu du), boxed-more (f .blob) p q (y .1))) (x .1)))
       (v .done q e)
 
-  progress-pop : Progress m w a s₀ (flooding (z .seen) (z .waiting) b′ (max (f .most) (length (z .waiting))))
+  progress-pop : Progress m w a s₀ (flooding (z .seen) (z .waiting) b′ (max (f .waited) (length (z .waiting))))
   unfolding grow
   progress-pop =
       record {
@@ -172,7 +172,7 @@ module _ {m : List ℕ} {w a : ℕ} {s₀ : List ℕ} (pix : Pixel m w a) (f : F
         y0 = hit-min (row w) (f .blob .y0) jp (v .y0);
         y1 = hit-max (row w) (f .blob .y1) jp (v .y1);
         some = omega (arith, v .some);
-        most = omega (arith, v .most, counts, v .area, ap length fe, r .grows);
+        waited-held = omega (arith, v .waited-held, counts, v .area, ap length fe, r .grows);
       }
 
 progress-take : {m : List ℕ} {w a : ℕ} {s₀ : List ℕ} → Pixel m w a → (f : Flooding) (k : List ℕ) → f .waiting ≡ k → Progress m w a s₀ f → Progress m w a s₀ (take m w f k)
@@ -243,8 +243,8 @@ pub record Flooded (m : List ℕ) (w a : ℕ) (s : List ℕ) (f : Flooding) : Ty
   pub all : (q : ℕ) → Joined m w a q → at (f .seen) q ≡ 1
   pub only : (q : ℕ) → at (f .seen) q ≡ 1 → (at s q ≡ 1) ⊎ Joined m w a q
   pub count : total one (at (f .seen)) (length m) ≡ total one (at s) (length m) + f .blob .area
-  pub some : 1 ≤ f .most
-  pub most : f .most ≤ f .blob .area
+  pub some : 1 ≤ f .waited
+  pub waited-held : f .waited ≤ f .blob .area
 
 module _ {m : List ℕ} {w a : ℕ} {s₀ : List ℕ} (g : Ready m w s₀ a) (f : Flooding) (v : Progress m w a s₀ f) (fe : f .waiting ≡ []) where
   -- nothing waits
@@ -314,7 +314,7 @@ module _ {m : List ℕ} {w a : ℕ} {s₀ : List ℕ} (g : Ready m w s₀ a) (f 
         only = λ q e. ⊎-elim inl (λ x. inr (x .0)) (ended q e);
         count = omega (arith, v .area, ap length fe);
         some = v .some;
-        most = omega (arith, v .most, v .area, ap length fe);
+        waited-held = omega (arith, v .waited-held, v .area, ap length fe);
       }
 
 pub flood-does : {m : List ℕ} {w a : ℕ} {s : List ℕ} → Ready m w s a → Flooded m w a s (flood m w a s)

@@ -8,7 +8,6 @@ pub mod Pairs
 pub mod Scans
 pub mod Records
 pub mod Stacks
-pub mod Parts
 pub mod Whole
 pub mod Unique
 pub mod Masks

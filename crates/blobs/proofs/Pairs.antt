@@ -15,6 +15,7 @@ use Rattle.blobs.specs.Patches.Touch.{right, left, under, over}
 use Rattle.blobs.specs.Patches.Joined.{here, step}
 use Rattle.blobs.specs.Ready.{at}
 use Rattle.blobs.proofs.Grid.{touch-back}
+use Rattle.blobs.proofs.Sums.{total-below}
 
 total-split : (c : ℕ → ℕ) (a b : ℕ) → total one c (a + b) ≡ total one c a + total one (λ q. c (a + q)) b
 unfolding total
@@ -25,11 +26,6 @@ total-add : (c d : ℕ → ℕ) (n : ℕ) → total one (λ q. c q + d q) n ≡ 
 unfolding total
 total-add c d zero = refl
 total-add c d (suc n) = omega (arith, total-add c d n, mul-one (c n), mul-one (d n), mul-one (c n + d n))
-
-total-below : (c : ℕ → ℕ) (n : ℕ) → ((q : ℕ) → q < n → c q ≤ 1) → total one c n ≤ n
-unfolding total
-total-below c zero h = omega arith
-total-below c (suc n) h = omega (arith, total-below c n (λ q l. h q (omega arith)), h n (omega arith), mul-one (c n))
 
 -- of two neighbours in a row one counts at most
 row-half : (c : ℕ → ℕ) (n : ℕ) → ((q : ℕ) → q < n → c q ≤ 1) → ((q : ℕ) → q + 1 < n → c q + c (q + 1) ≤ 1) → 2 * total one c n ≤ n + 1

@@ -1,36 +1,15 @@
 -- The flat list: what a stored record leaves of each record, and the list as a table of records. Assumes nothing.
-use Prim.Native.Nat.{ℕ, zero, suc, _+_, _*_, _≤_, _<_}
+use Prim.Native.Nat.{ℕ, _+_, _*_, _≤_, _<_}
 use native.Mathlib.Numerals.{add-one}
 use native.Mathlib.Omega.{arith}
-use mathlib.Core.Path.{_≡_, refl, ap, ap₂, _∙_}
+use mathlib.Core.Path.{_≡_, ap, ap₂, _∙_}
 use mathlib.Core.List.{List, [], _∷_, _++_}
 use lib.ListN.{length, getD, set, drop, length-set}
 use lib.Seq.{getD-set-same, getD-set-other, drop-set-lt}
 use Rattle.base.specs.Loops.{table}
+use Rattle.base.proofs.Table.{table-more, table-cong}
 use Rattle.blobs.specs.declared.Blob.{Blob}
 use Rattle.blobs.specs.Patches.{recordLength, patchAt, stored}
-
--- ---- tables
-pub table-same : {A : Type 0} (f g : ℕ → A) (n : ℕ) → ((k : ℕ) → k < n → f k ≡ g k) → table f n ≡ table g n
-unfolding table
-table-same f g zero h = refl
-table-same f g (suc n) h = ap₂ _∷_ (h 0 (omega arith)) (table-same (λ k. f (suc k)) (λ k. g (suc k)) n (λ k l. h (suc k) (omega arith)))
-
-pub table-more : {A : Type 0} (f : ℕ → A) (n : ℕ) → table f (suc n) ≡ table f n ++ (f n ∷ [])
-unfolding table
-table-more f zero = refl
-table-more f (suc n) = ap (λ l. f 0 ∷ l) (table-more (λ k. f (suc k)) n)
-
-pub table-at : {A : Type 0} (f : ℕ → A) (n k : ℕ) (d : A) → k < n → getD (table f n) k d ≡ f k
-unfolding table
-table-at f zero k d l = absurd (omega arith)
-table-at f (suc n) zero d l = refl
-table-at f (suc n) (suc k) d l = table-at (λ k. f (suc k)) n k d (omega arith)
-
-pub length-table : {A : Type 0} (f : ℕ → A) (n : ℕ) → length (table f n) ≡ n
-unfolding table
-length-table f zero = refl
-length-table f (suc n) = ap suc (length-table (λ k. f (suc k)) n)
 
 -- ---- seven stores in a row
 module _ (l : List ℕ) (b v0 v1 v2 v3 v4 v5 v6 : ℕ) where
@@ -142,4 +121,4 @@ module _ (l : List ℕ) (j : ℕ) (t : Blob) where
   stored-table h =
       ap (table (patchAt (stored l j t))) (add-one j)
       ∙ table-more (patchAt (stored l j t)) j
-      ∙ ap₂ (λ x y. x ++ (y ∷ [])) (table-same (patchAt (stored l j t)) (patchAt l) j stored-before) (stored-here h)
+      ∙ ap₂ (λ x y. x ++ (y ∷ [])) (table-cong (patchAt (stored l j t)) (patchAt l) j stored-before) (stored-here h)

@@ -1,30 +1,21 @@
 -- The tests of `label_blobs`, worked off one after another. Assumes nothing.
-use Prim.Native.Nat.{ℕ, zero, suc, _+_, _*_, _/_, _≤_, _<_}
+use Prim.Native.Nat.{ℕ, _+_, _*_, _/_, _≤_, _<_}
 use native.Mathlib.Decide.{decLt, ℕ-discrete}
 use native.Mathlib.Omega.{arith}
-use mathlib.Core.Path.{_≡_, refl, sym, ap, _∙_}
-use mathlib.Core.Bool.{Bool, true, false, not, _||_}
+use mathlib.Core.Path.{_≡_, sym, ap, _∙_}
+use mathlib.Core.Bool.{true, false, not, _||_}
 use mathlib.Core.Logic.{_⊎_, inl, inr}
 use mathlib.Core.List.{List}
 use lib.Dec.{ltb, eqb, lit<}
 use lib.ListN.{length}
 use borrow.Author.Tests.{lt-ltb, le-ltb, eq-eqb, ne-eqb}
-use Rattle.frame.specs.Refusals.{Lowest, Tested, lowestOf, sidesWrong, verdictOf}
-use Rattle.frame.specs.declared.Verdict.the-variants as D
-use Rattle.frame.proofs.Tests.{either, or-first, or-second}
+use Rattle.frame.specs.Refusals.{Lowest, Tested, lowestOf, sidesWrong}
+use Rattle.base.proofs.Tests.{either, or-first, or-second, or-neither}
 use Rattle.frame.proofs.Lowest.{lowest-of, lowest-first, lowest-next, lowest-none}
 use Rattle.frame.proofs.Held.{sides-held}
 use Rattle.blobs.specs.Patches.{recordLength}
 use Rattle.blobs.specs.Contracts.{patchTests}
 use Rattle.blobs.specs.Ready.{Sized}
-
-or-neither : (a b : Bool) → a ≡ false → b ≡ false → a || b ≡ false
-or-neither a b e d = rw e d
-
-pub refused-is : (n : ℕ) → 1 ≤ n → D.Refused n ≡ verdictOf n
-unfolding verdictOf
-refused-is zero h = absurd (omega arith)
-refused-is (suc n) h = refl
 
 module _ (w h lm ls lk ll : ℕ) where
   abbrev tests : ℕ

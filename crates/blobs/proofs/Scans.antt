@@ -11,6 +11,7 @@ use lib.ListN.{length, getD, set, replicate, length-set, length-append, length-r
 use lib.Seq.{getD-at}
 use borrow.Author.Tests.{eqb-true, eqb-false}
 use Rattle.base.specs.Loops.{turns}
+use Rattle.base.proofs.Pick.{cond-elim}
 use Rattle.blobs.specs.declared.Blob.{Blob}
 use Rattle.blobs.specs.Patches.{Dark, Joined, total, one, PatchOf, First, ink}
 use Rattle.blobs.specs.Patches.Joined.{here, step}
@@ -19,7 +20,6 @@ use Rattle.blobs.specs.Ready.{at, Closed, Ready, Sized}
 use Rattle.blobs.proofs.Sums.{total-same, total-same-f, total-next, total-zero, total-set, at-set, flags-set}
 use Rattle.blobs.proofs.Grid.{dark-inside}
 use Rattle.blobs.proofs.Joins.{joined-dark, closed-back}
-use Rattle.blobs.proofs.Steps.{cond-elim}
 use Rattle.blobs.proofs.Floods.{Flooded, flood-does}
 use Rattle.blobs.proofs.Pairs.{firsts-few}
 
@@ -51,7 +51,7 @@ pub record Scan (m : List ℕ) (w : ℕ) (c : Scanned) (i : ℕ) : Type 0 where
   pub before : (j : ℕ) → j < count c → at firsts j < i
   pub every : (q : ℕ) → at (c .seen) q ≡ 1 → (j : ℕ) × (j < count c) × Joined m w (at firsts j) q
   pub areas : total (λ j. blobAt c j .area) one (count c) ≡ total one (at (c .seen)) (length m)
-  pub waited : ((count c ≡ 0) × (c .most ≡ 0)) ⊎ ((1 ≤ c .most) × ((j : ℕ) × (j < count c) × (c .most ≤ blobAt c j .area)))
+  pub waited-held : ((count c ≡ 0) × (c .waited ≡ 0)) ⊎ ((1 ≤ c .waited) × ((j : ℕ) × (j < count c) × (c .waited ≤ blobAt c j .area)))
   -- the first pixels once more, as flags
   pub flag : List ℕ
   pub flag-long : length flag ≡ length m
@@ -81,7 +81,7 @@ scan-pass {m} {w} {c} {i} h v =
       before = λ j b. omega (arith, v .before j b);
       every = v .every;
       areas = v .areas;
-      waited = v .waited;
+      waited-held = v .waited-held;
       flag = v .flag;
       flag-long = v .flag-long;
       flag-most = v .flag-most;
@@ -214,17 +214,17 @@ module _ {m : List ℕ} {w : ℕ} {c : Scanned} {i : ℕ} (v : Scan m w c i) (in
           ap (λ (x : Blob). x .area) blob-new,
         )
 
-    waited′ : ((count c′ ≡ 0) × (c′ .most ≡ 0)) ⊎ ((1 ≤ c′ .most) × ((j : ℕ) × (j < count c′) × (c′ .most ≤ blobAt c′ j .area)))
-    waited′ =
-        ⊎-elim (λ x. inr (omega (arith, g .some), (count c, omega (arith, more), omega (arith, x .1, g .most, new-area))))
-        (λ x. inr (omega (arith, x .0), deepest (x .1) (decLt (c .most) (f .most)))) (v .waited)
+    waited-held′ : ((count c′ ≡ 0) × (c′ .waited ≡ 0)) ⊎ ((1 ≤ c′ .waited) × ((j : ℕ) × (j < count c′) × (c′ .waited ≤ blobAt c′ j .area)))
+    waited-held′ =
+        ⊎-elim (λ x. inr (omega (arith, g .some), (count c, omega (arith, more), omega (arith, x .1, g .waited-held, new-area))))
+        (λ x. inr (omega (arith, x .0), more-waited (x .1) (decLt (c .waited) (f .waited)))) (v .waited-held)
       where
         new-area : blobAt c′ (count c) .area ≡ f .blob .area
         new-area = ap (λ (x : Blob). x .area) blob-new
 
-        deepest : ((j : ℕ) × (j < count c) × (c .most ≤ blobAt c j .area)) → Dec (c .most < f .most) → (j : ℕ) × (j < count c′) × (max (c .most) (f .most) ≤ blobAt c′ j .area)
-        deepest x (yes y) = (count c, omega (arith, more), omega (arith, g .most, new-area))
-        deepest x (no o) = (x .0, omega (arith, x .1, more), omega (arith, x .2, ap (λ (x : Blob). x .area) (blob-old (x .0) (x .1))))
+        more-waited : ((j : ℕ) × (j < count c) × (c .waited ≤ blobAt c j .area)) → Dec (c .waited < f .waited) → (j : ℕ) × (j < count c′) × (max (c .waited) (f .waited) ≤ blobAt c′ j .area)
+        more-waited x (yes y) = (count c, omega (arith, more), omega (arith, g .waited-held, new-area))
+        more-waited x (no o) = (x .0, omega (arith, x .1, more), omega (arith, x .2, ap (λ (x : Blob). x .area) (blob-old (x .0) (x .1))))
 
     scan-more : Scan m w c′ (suc i)
     scan-more =
@@ -246,7 +246,7 @@ module _ {m : List ℕ} {w : ℕ} {c : Scanned} {i : ℕ} (v : Scan m w c i) (in
           before = before′;
           every = every′;
           areas = areas′;
-          waited = waited′;
+          waited-held = waited-held′;
           flag = flag′;
           flag-long = length-set (v .flag) i 1 ∙ v .flag-long;
           flag-most = flags-set (v .flag) i in-flag (v .flag-most);
@@ -296,7 +296,7 @@ scan-start {m} {w} {h} g =
       before = λ j b. absurd (omega arith);
       every = λ q e. absurd (omega (arith, e, z q));
       areas = sym t;
-      waited = inl (refl, refl);
+      waited-held = inl (refl, refl);
       flag = replicate n 0;
       flag-long = length-replicate n zero;
       flag-most = λ q. omega (arith, z q);

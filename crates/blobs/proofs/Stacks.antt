@@ -9,14 +9,14 @@ use lib.ListN.{length, getD, set}
 use lib.Seq.{getD-set-same, getD-set-other}
 use borrow.Author.Tests.{eq-eqb, ne-eqb}
 use Rattle.base.specs.Loops.{turns, table}
-use Rattle.base.proofs.Pick.{pick-yes, pick-no}
+use Rattle.base.proofs.Pick.{pick-yes, pick-no, cond-elim}
 use Rattle.base.proofs.Turns.{turns-stay}
 use Rattle.blobs.specs.declared.Blob.{Blob}
 use Rattle.blobs.specs.Patches.{patchAt, stored, recordLength}
 use Rattle.blobs.specs.Stack.{Marking, marking, stackOf, visit, visitLeft, visitRight, visitUp, spread, grow, noBlob, Flooding, flooding, begun, take, floodStep}
 use Rattle.blobs.specs.Stack.{flood, Scanned, scanned, listed, scan}
 use Rattle.blobs.specs.Ready.{at, Held, Stacked, Pixel}
-use Rattle.blobs.proofs.Steps.{cond-elim, room, reach-left, reach-right, reach-up}
+use Rattle.blobs.proofs.Steps.{room, reach-left, reach-right, reach-up}
 use Rattle.blobs.proofs.Floods.{floodStep-none}
 use Rattle.blobs.proofs.Records.{stored-table}
 

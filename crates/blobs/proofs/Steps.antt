@@ -3,24 +3,20 @@ use Prim.Native.Nat.{ℕ, _+_, _-_, _%_, _≤_, _<_}
 use native.Mathlib.Nat.{mod-le}
 use native.Mathlib.Omega.{arith}
 use mathlib.Core.Path.{_≡_, refl, sym, _∙_, subst}
-use mathlib.Core.Bool.{Bool, true, false, cond}
+use mathlib.Core.Bool.{Bool, true, cond, true≢false}
 use mathlib.Core.List.{List, _∷_}
 use mathlib.Core.Logic.{_⊎_, inl, inr, ⊎-elim}
 use lib.Dec.{leb, ltb, eqb}
 use lib.ListN.{length, getD, set, length-set}
 use lib.Seq.{getD-set-same}
 use borrow.Author.Tests.{eqb-true, eqb-false, ltb-true, leb-true, lt-ltb, le-leb}
+use Rattle.base.proofs.Pick.{cond-elim}
 use Rattle.blobs.specs.Patches.{Dark, Touch, total, one}
 use Rattle.blobs.specs.Patches.Touch.{right, left, under, over}
 use Rattle.blobs.specs.Stack.{Marking, marking, visit, visitLeft, visitRight, visitUp, visitDown, spread}
 use Rattle.blobs.specs.Ready.{at, Held, Pixel}
 use Rattle.blobs.proofs.Sums.{total-set, at-set, flags-set, unseen-fewer, summed}
 use Rattle.blobs.proofs.Grid.{left-of, right-of, in-row, dark-inside}
-
--- what holds of both values of a `cond` holds of it
-pub cond-elim : {A : Type 0} (P : A → Type 0) (t : Bool) (x y : A) → (t ≡ true → P x) → (t ≡ false → P y) → P (cond t x y)
-cond-elim P true x y f g = f refl
-cond-elim P false x y f g = g refl
 
 -- q is among the pixels that wait
 pub data Waits (q : ℕ) : List ℕ → Type 0 where
@@ -116,10 +112,8 @@ reach-if {m} P t a q h y =
     cond-elim (Reach m P a) t (visit m q a) a (λ e. reach-wide (λ x z. subst P (sym z) (y e .1)) (reach-visit a q h (y e .0))) (λ e. reach-none h)
 
 if-marks : {m : List ℕ} (t : Bool) (a : Marking) (q : ℕ) → t ≡ true → Held m a → Dark m q → at (cond t (visit m q a) a .seen) q ≡ 1
-if-marks {m} t a q e h d = cond-elim (λ b. at (b .seen) q ≡ 1) t (visit m q a) a (λ y. visit-marks a q h (dark-inside m q d) d) (λ n. absurd (true-false (sym e ∙ n)))
-  where
-    true-false : true ≡ false → ⊥
-    true-false p = let z : _≡_ {A = ℕ} 0 1 = cc in omega arith
+if-marks {m} t a q e h d =
+    cond-elim (λ b. at (b .seen) q ≡ 1) t (visit m q a) a (λ y. visit-marks a q h (dark-inside m q d) d) (λ n. absurd (true≢false (sym e ∙ n)))
 
 -- ---- the four neighbours of p
 module _ {m : List ℕ} {w p : ℕ} (a : Marking) (x : Pixel m w p) (h : Held m a) where

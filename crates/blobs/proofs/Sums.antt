@@ -50,6 +50,12 @@ total-most f c b (suc n) h g =
     let d : c n * f n ≤ 1 * b = mul-le-mul (h n) (g n (omega arith)) in
     omega (arith, one-mul b, suc-mul n b)
 
+-- as many pixels at most
+pub total-below : (c : ℕ → ℕ) (n : ℕ) → ((q : ℕ) → q < n → c q ≤ 1) → total one c n ≤ n
+unfolding total
+total-below c zero h = omega arith
+total-below c (suc n) h = omega (arith, total-below c n (λ q l. h q (omega arith)), h n (omega arith), mul-one (c n))
+
 -- what a store leaves at each place
 pub at-set : (s : List ℕ) (q v j : ℕ) → q < length s → ((j ≡ q) × (at (set s q v) j ≡ v)) ⊎ ((j ≢ q) × (at (set s q v) j ≡ at s j))
 at-set s q v j l = go (ℕ-discrete j q)

@@ -1,26 +1,19 @@
 -- What the statements decide: a patch has one record, and a mask one patch list. Assumes nothing.
 use mathlib.Core.Path.{_≡_, sym, ap, subst, _∙_}
-use mathlib.Core.Logic.{_⊎_, inl, inr, ⊎-elim}
+use mathlib.Core.Logic.{⊎-elim}
 use mathlib.Core.List.{List}
-use Prim.Native.Nat.{ℕ, zero, suc, _≤_, _<_}
-use native.Mathlib.Nat.{le-antisymm, eq-or-lt-of-le, le-of-suc-le-suc}
-use native.Mathlib.Decide.{decLt}
+use Prim.Native.Nat.{ℕ, _≤_, _<_}
+use native.Mathlib.Nat.{le-antisymm}
 use native.Mathlib.Omega.{arith}
 use lib.ListN.{length, getD}
 use lib.Seq.{ext-getD}
 use Rattle.base.specs.Loops.{table}
+use Rattle.base.proofs.Enumerations.{Within, within-same, within-number}
+use Rattle.base.proofs.Table.{table-cong}
 use Rattle.blobs.specs.declared.Blob.{Blob}
 use Rattle.blobs.specs.Patches.{Joined, Marks, Least, Greatest, one, column, row, PatchOf, First, patchAt, PatchList}
 use Rattle.blobs.proofs.Sums.{total-same}
 use Rattle.blobs.proofs.Joins.{joined-sym}
-use Rattle.blobs.proofs.Records.{table-same}
-
-lt-or-ge : (i j : ℕ) → (i < j) ⊎ (j ≤ i)
-lt-or-ge i j = go (decLt i j)
-  where
-    go : Dec (i < j) → (i < j) ⊎ (j ≤ i)
-    go (yes y) = inl y
-    go (no n) = inr (omega arith)
 
 marks-same : (c d : ℕ → ℕ) (P : ℕ → Type 0) → Marks c P → Marks d P → (q : ℕ) → c q ≡ d q
 marks-same c d P m n q = ⊎-elim
@@ -58,49 +51,21 @@ module _ (m : List ℕ) (w : ℕ) where
       (e .0, e .1, le-antisymm (h .first (e .0) (e .1) .1 p (e .2)) (f .1 (getD firsts (e .0) 0) (joined-sym (e .2))))
 
   module _ {k k′ l l′ : List ℕ} {n o : ℕ} {F G : List ℕ} (a : PatchList m w k k′ n F) (b : PatchList m w l l′ o G) where
-    -- where the lists agree below j, the j-th of the first is not before that of the second
-    not-before : (j : ℕ) → j < n → ((i : ℕ) → i < j → getD F i 0 ≡ getD G i 0) → (j < o) × (getD G j 0 ≤ getD F j 0)
-    not-before j h same = go (listed b (getD F j 0) (a .first j h))
-      where
-        go : (i : ℕ) × (i < o) × (getD G i 0 ≡ getD F j 0) → (j < o) × (getD G j 0 ≤ getD F j 0)
-        go c = ⊎-elim
-            (λ l. absurd (let x : getD F (c .0) 0 < getD F j 0 = a .ordered (c .0) j l h in
-            let y : getD F (c .0) 0 ≡ getD G (c .0) 0 = same (c .0) l in let z : getD G (c .0) 0 ≡ getD F j 0 = c .2 in omega arith))
-            (λ l. (
-              omega (arith, c .1),
-              ⊎-elim
-                  (λ e. subst (λ z. getD G z 0 ≤ getD F j 0) (sym e) (let z : getD G (c .0) 0 ≡ getD F j 0 = c .2 in omega arith))
-                  (λ e. let z : getD G (c .0) 0 ≡ getD F j 0 = c .2 in let y : getD G j 0 < getD G (c .0) 0 = b .ordered j (c .0) e (c .1) in omega arith)
-                  (eq-or-lt-of-le l),
-            ))
-            (lt-or-ge (c .0) j)
+    firsts-within : Within (λ j. getD F j 0) (λ j. getD G j 0) n o
+    firsts-within = record { rises = a .ordered; found = λ i h. listed b (getD F i 0) (a .first i h) }
 
   module _ {k k′ l l′ : List ℕ} {n o : ℕ} {F G : List ℕ} (a : PatchList m w k k′ n F) (b : PatchList m w l l′ o G) where
-    agree : (j i : ℕ) → i < j → i < n → getD F i 0 ≡ getD G i 0
-    agree zero i h r = absurd (omega arith)
-    agree (suc j) i h r = ⊎-elim (λ e. here-too i r (λ x y. agree j x (omega arith) (omega arith))) (λ l. agree j i l r) (eq-or-lt-of-le (le-of-suc-le-suc h))
-      where
-        here-too : (i : ℕ) → i < n → ((x : ℕ) → x < i → getD F x 0 ≡ getD G x 0) → getD F i 0 ≡ getD G i 0
-        here-too i r s =
-            let x = not-before a b i r s in
-            let y = not-before b a i (x .0) (λ z t. sym (s z t)) in
-            le-antisymm (y .1) (x .1)
-
     -- as many patches, with the same first pixels and the same records
+    pub list-number : n ≡ o
+    list-number = within-number (firsts-within a b) (firsts-within b a)
+
     pub list-firsts : (j : ℕ) → j < n → (j < o) × (getD F j 0 ≡ getD G j 0)
-    list-firsts j h = (not-before a b j h (λ i l. agree j i l (omega arith)) .0, agree (suc j) j (omega arith) h)
+    list-firsts j h = within-same (firsts-within a b) (firsts-within b a) j h
 
     pub list-records : (j : ℕ) → j < n → patchAt k′ j ≡ patchAt l′ j
     list-records j h =
         let e = list-firsts j h in
         patch-unique m w (getD F j 0) (patchAt k′ j) (patchAt l′ j) (a .records j h) (subst (λ z. PatchOf m w z (patchAt l′ j)) (sym (e .1)) (b .records j (e .0)))
-
-  pub list-number : {k k′ l l′ : List ℕ} {n o : ℕ} {F G : List ℕ} → PatchList m w k k′ n F → PatchList m w l l′ o G → n ≡ o
-  list-number {n} {o} a b = le-antisymm (at-most n o (λ j h. list-firsts a b j h .0)) (at-most o n (λ j h. list-firsts b a j h .0))
-    where
-      at-most : (n o : ℕ) → ((j : ℕ) → j < n → j < o) → n ≤ o
-      at-most zero o f = omega arith
-      at-most (suc n) o f = f n (omega arith)
 
   -- two lists that satisfy the statement are equal: as many records, the same first pixels, the same records
   pub lists-equal : {k k′ l l′ : List ℕ} {n o : ℕ} {F G : List ℕ} → PatchList m w k k′ n F → PatchList m w l l′ o G → (n ≡ o) × (F ≡ G)
@@ -109,5 +74,5 @@ module _ (m : List ℕ) (w : ℕ) where
       let e = list-number a b in (
         e,
         ext-getD 0 F G (a .many ∙ e ∙ sym (b .many)) (λ i h. list-firsts a b i (omega (arith, a .many)) .1),
-        table-same (patchAt k′) (patchAt l′) n (list-records a b) ∙ ap (table (patchAt l′)) e,
+        table-cong (patchAt k′) (patchAt l′) n (list-records a b) ∙ ap (table (patchAt l′)) e,
       )

@@ -8,14 +8,15 @@ use lib.ListN.{length, getD, take, drop, replicate, drop-of-length-le, List·get
 use lib.Seq.{length-take-le, length-front, drop-at}
 use Rattle.base.specs.Loops.{turns, table}
 use Rattle.base.proofs.Plane.{filled-is}
+use Rattle.base.proofs.Table.{table-at, length-table}
+use Rattle.base.proofs.Parts.{filled-lent}
 use Rattle.blobs.specs.declared.Blob.{Blob}
 use Rattle.blobs.specs.Patches.{total, one, PatchOf, ink, recordLength, patchAt, Waited, PatchList}
 use Rattle.blobs.specs.Stack.{Scanned, scanned, scan, unmarked, scanAll}
 use Rattle.blobs.specs.Ready.{at, Sized}
+use Rattle.blobs.specs.Areas.{patchAreas}
 use Rattle.blobs.specs.Labels.{Labels}
 use Rattle.blobs.proofs.Sums.{total-same-f}
-use Rattle.blobs.proofs.Records.{table-at, length-table}
-use Rattle.blobs.proofs.Parts.{filled-part}
 use Rattle.blobs.proofs.Scans.{Scan, none, scan-turns, seen-all, seen-ink, scan-half, areas-ink}
 
 -- the areas as the scan left them
@@ -55,23 +56,23 @@ module _ {m : List ℕ} {w h : ℕ} (g : Sized m w h) (s k l s′ k′ l′ : Li
         rest = rest;
       }
 
-  waited′ : Waited l′ n d
-  waited′ =
+  waited-held′ : Waited l′ n d
+  waited-held′ =
       ⊎-elim (λ x. inl (sym many ∙ x .0, x .1))
       (λ x. let j = x .1 .0 in let b : j < n = omega (arith, x .1 .1, many) in inr (x .0, (j, b, omega (arith, x .1 .2, ap (λ (t : Blob). t .area) (is j b)))))
-      (v .waited)
+      (v .waited-held)
 
   pub labels-are : length s ≡ w * h → length k ≡ w * h → length k′ ≡ length k → length l′ ≡ length l → drop (recordLength * n) l′ ≡ drop (recordLength * n) l
-      → Labels m w h s k l s′ k′ l′ n d
+      → Labels m w h (patchAreas s k l) (patchAreas s′ k′ l′) n d
   unfolding scanAll
   labels-are sl kl kl′ long rest =
       record {
         marks = filled-is (ink m) s (w * h) 0 s′ (omega arith) s-long (λ q b. seen-ink v q) past;
         firsts = v .firsts;
         records = list long rest;
-        waited = waited′;
+        waited-held = waited-held′;
         blobs = ap (λ (c : Scanned). c .blobs) e;
-        most-is = ap (λ (c : Scanned). c .most) e;
+        waited-is = ap (λ (c : Scanned). c .waited) e;
         waiting-long = kl′;
         waiting-rest = drop-of-length-le k′ {i = w * h} (omega arith) ∙ sym (drop-of-length-le k {i = w * h} (omega arith));
       }
@@ -84,15 +85,16 @@ module _ {m : List ℕ} {w h : ℕ} (g : Sized m w h) (s k l s′ k′ l′ : Li
 
 -- labelling on the first w·h entries, as labelling on the whole areas
 pub labels-whole : (m : List ℕ) (w h : ℕ) (s k l s′ k′ l′ : List ℕ) (n d : ℕ) → w * h ≤ length s → w * h ≤ length k
-    → Labels m w h (take (w * h) s) (take (w * h) k) l s′ k′ l′ n d → Labels m w h s k l (s′ ++ drop (w * h) s) (k′ ++ drop (w * h) k) l′ n d
+    → Labels m w h (patchAreas (take (w * h) s) (take (w * h) k) l) (patchAreas s′ k′ l′) n d
+    → Labels m w h (patchAreas s k l) (patchAreas (s′ ++ drop (w * h) s) (k′ ++ drop (w * h) k) l′) n d
 labels-whole m w h s k l s′ k′ l′ n d sl kl a =
     record {
-      marks = filled-part (ink m) (w * h) s s′ sl (a .marks);
+      marks = ap (λ b. b ++ drop (w * h) s) (a .marks) ∙ filled-lent (ink m) s (w * h) (w * h) (omega arith) sl;
       firsts = a .firsts;
       records = a .records;
-      waited = a .waited;
+      waited-held = a .waited-held;
       blobs = a .blobs;
-      most-is = a .most-is;
+      waited-is = a .waited-is;
       waiting-long = length-front k k′ (w * h) (a .waiting-long);
       waiting-rest = drop-at k′ (drop (w * h) k) (w * h) (a .waiting-long ∙ length-take-le (w * h) k kl);
     }

@@ -1,25 +1,25 @@
--- What labelling a mask leaves (document 01, "Patches"). Assumes nothing.
+-- What labelling a mask leaves (requirements, 7). Assumes nothing.
 use Prim.Native.Nat.{ℕ, _*_}
 use mathlib.Core.Path.{_≡_}
 use mathlib.Core.List.{List}
 use lib.ListN.{length, drop}
 use Rattle.base.specs.Loops.{table, filled}
 use Rattle.blobs.specs.Patches.{ink, patchAt, Waited, PatchList}
-use Rattle.blobs.specs.Stack.{scanAll, mostWaiting}
+use Rattle.blobs.specs.Stack.{scanAll, waitedOf}
+use Rattle.blobs.specs.Areas.{PatchAreas}
 
--- of a mask m, w by h: marks s, waiting list k and records l at entry, those at exit, n records, and the most pixels
--- that waited
-pub record Labels (m : List ℕ) (w h : ℕ) (s k l s′ k′ l′ : List ℕ) (n most : ℕ) : Type 0 where
-  -- "marks become 1 where dark and 0 elsewhere"; entries past w·h are unchanged
-  pub marks : s′ ≡ filled (ink m) (w * h) s
-  -- the patches by meaning; records past the last are unchanged
+-- of a mask m, w by h: the areas at entry and at exit, n records, and the most pixels that waited
+pub record Labels (m : List ℕ) (w h : ℕ) (before after : PatchAreas) (n waited : ℕ) : Type 0 where
+  -- [7.2] marks become 1 where dark and 0 elsewhere; [3.2] entries past w·h stay as they were
+  pub marks : after .seen ≡ filled (ink m) (w * h) (before .seen)
+  -- [7.1, 7.3, 7.4] the patches by meaning; [3.2] records past the last stay as they were
   pub firsts : List ℕ
-  pub records : PatchList m w l l′ n firsts
-  -- "0 without dark pixels and otherwise from 1 to the largest area"
-  pub waited : Waited l′ n most
-  -- "no answer depends on prior work-area contents": records and maximum are functions of the mask
-  pub blobs : table (patchAt l′) n ≡ scanAll m w .blobs
-  pub most-is : most ≡ mostWaiting m w
-  -- the waiting list's content is free; entries past w·h are unchanged
-  pub waiting-long : length k′ ≡ length k
-  pub waiting-rest : drop (w * h) k′ ≡ drop (w * h) k
+  pub records : PatchList m w (before .patches) (after .patches) n firsts
+  -- [7.5] 0 without dark pixels and otherwise from 1 to the largest area
+  pub waited-held : Waited (after .patches) n waited
+  -- [14.3] whatever the areas held before: records and maximum are functions of the mask
+  pub blobs : table (patchAt (after .patches)) n ≡ scanAll m w .blobs
+  pub waited-is : waited ≡ waitedOf m w
+  -- [14.2] the waiting list's content is free; [3.2] entries past w·h stay as they were
+  pub waiting-long : length (after .waiting) ≡ length (before .waiting)
+  pub waiting-rest : drop (w * h) (after .waiting) ≡ drop (w * h) (before .waiting)

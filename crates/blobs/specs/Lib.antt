@@ -2,5 +2,6 @@
 pub mod Patches
 pub mod Stack
 pub mod Ready
+pub mod Areas
 pub mod Labels
 pub mod Contracts

@@ -1,4 +1,4 @@
--- Patches of dark pixels (document 01, "Patches"). A mask is the list of its pixels in raster order, w to a row:
+-- Patches of dark pixels (requirements, 7). A mask is the list of its pixels in raster order, w to a row:
 -- pixel p stands in column p % w and row p / w. Assumes nothing.
 use Prim.Native.Nat.{ℕ, zero, suc, _+_, _*_, _/_, _%_, _≤_, _<_, min}
 use mathlib.Core.Path.{_≡_}
@@ -7,18 +7,18 @@ use mathlib.Core.Logic.{_⊎_}
 use lib.ListN.{length, getD, set, drop}
 use Rattle.blobs.specs.declared.Blob.{Blob}
 
--- "any nonzero byte is dark" (past the mask's end nothing is)
+-- [7.2] any nonzero byte is dark (past the mask's end nothing is)
 abbrev pub Dark : List ℕ → ℕ → Type 0
 Dark m q = getD m q 0 ≡ 0 → ⊥
 
--- "each sharing an edge with the next": q is right of p, left of it, under it or over it
+-- [7.1] p shares an edge with q: q is right of p, left of it, under it or over it
 pub data Touch (w p q : ℕ) : Type 0 where
   right : q ≡ p + 1 → p % w + 1 < w → Touch w p q
   left : p ≡ q + 1 → q % w + 1 < w → Touch w p q
   under : q ≡ p + w → Touch w p q
   over : p ≡ q + w → Touch w p q
 
--- "Two dark pixels belong together when a chain of dark pixels joins them"
+-- [7.1] two dark pixels belong together when a chain of dark pixels joins them
 pub data Joined (m : List ℕ) (w p : ℕ) : ℕ → Type 0 where
   here : Dark m p → Joined m w p p
   step : {q r : ℕ} → Joined m w p q → Touch w q r → Dark m r → Joined m w p r
@@ -48,8 +48,8 @@ column w q = q % w
 abbrev pub row : ℕ → ℕ → ℕ
 row w q = q / w
 
--- "A patch is a whole class." "Each record has area, sum of x, sum of y, and box x0, y0, x1, y1." t is the record of
--- the class of the pixel a
+-- [7.1] a patch is a whole class; [7.3] its record has area, sum of x, sum of y and the box x0, y0, x1, y1. t is the
+-- record of the class of the pixel a
 pub record PatchOf (m : List ℕ) (w a : ℕ) (t : Blob) : Type 0 where
   pub marks : ℕ → ℕ
   pub marked : Marks marks (Joined m w a)
@@ -94,25 +94,25 @@ stored l j b =
     set (set (set (set (set (set (set l i (b .area)) (i + 1) (b .sx)) (i + 2) (b .sy)) (i + 3) (b .x0)) (i + 4)
     (b .y0)) (i + 5) (b .x1)) (i + 6) (b .y1)
 
--- "Labelling also reports the highest number of pixels waiting; free, but 0 without dark pixels and otherwise from 1
--- to the largest area"
+-- [7.5] the highest number of pixels waiting: free, but 0 without dark pixels and otherwise from 1 to the largest
+-- area
 abbrev pub Waited : List ℕ → ℕ → ℕ → Type 0
-Waited l n deep = ((n ≡ 0) × (deep ≡ 0)) ⊎ ((1 ≤ deep) × ((j : ℕ) × (j < n) × (deep ≤ patchAt l j .area)))
+Waited l n waited = ((n ≡ 0) × (waited ≡ 0)) ⊎ ((1 ≤ waited) × ((j : ℕ) × (j < n) × (waited ≤ patchAt l j .area)))
 
 -- the area l of records becomes l′, with n records; firsts are the patches' first pixels
 pub record PatchList (m : List ℕ) (w : ℕ) (l l′ : List ℕ) (n : ℕ) (firsts : List ℕ) : Type 0 where
   pub many : length firsts ≡ n
   pub long : length l′ ≡ length l
-  -- "Patches stand by their first raster pixel"
+  -- [7.4] patches stand by their first raster pixel
   pub first : (j : ℕ) → j < n → First m w (getD firsts j 0)
   pub ordered : (i j : ℕ) → i < j → j < n → getD firsts i 0 < getD firsts j 0
-  -- each record is that of "all the dark pixels joined edge to edge"
+  -- [0.4, 7.3] each record is that of all the dark pixels joined edge to edge
   pub records : (j : ℕ) → j < n → PatchOf m w (getD firsts j 0) (patchAt l′ j)
-  -- "every patch once"
+  -- [0.7] every patch once
   pub every : (q : ℕ) → Dark m q → (j : ℕ) × (j < n) × Joined m w (getD firsts j 0) q
-  -- "their areas add up to the dark pixels"
+  -- [0.7] their areas add up to the dark pixels
   pub areas : total (λ j. patchAt l′ j .area) one n ≡ total one (ink m) (length m)
-  -- "patch records ⌈w·h/2⌉" are enough
+  -- [3.1] ⌈w·h/2⌉ patch records are enough
   pub few : 2 * n ≤ length m + 1
-  -- "Records past the last .. are unchanged"
+  -- [3.2] records past the last stay as they were
   pub rest : drop (recordLength * n) l′ ≡ drop (recordLength * n) l

@@ -66,10 +66,10 @@ pub record Flooding : Type 0 where
   pub seen : List ℕ
   pub waiting : List ℕ
   pub blob : Blob
-  pub most : ℕ
+  pub waited : ℕ
 
 abbrev pub flooding : List ℕ → List ℕ → Blob → ℕ → Flooding
-flooding s k b d = record { seen = s; waiting = k; blob = b; most = d }
+flooding s k b d = record { seen = s; waiting = k; blob = b; waited = d }
 
 -- no pixel counted; the box starts at the pixel a (in the Rust at the ends of the number range: after a's own turn
 -- the two are equal)
@@ -85,7 +85,7 @@ unfoldable pub take : List ℕ → ℕ → Flooding → List ℕ → Flooding
 take m w f [] = f
 take m w f (p ∷ k) =
     let a = spread m w p (marking (f .seen) k) in
-    flooding (a .seen) (a .waiting) (grow (f .blob) (p % w) (p / w)) (max (f .most) (length (a .waiting)))
+    flooding (a .seen) (a .waiting) (grow (f .blob) (p % w) (p / w)) (max (f .waited) (length (a .waiting)))
 
 unfoldable pub floodStep : List ℕ → ℕ → ℕ → Flooding → Flooding
 floodStep m w i f = take m w f (f .waiting)
@@ -100,13 +100,13 @@ flood m w a s = turns (length m) (floodStep m w) (begun w a s)
 pub record Scanned : Type 0 where
   pub seen : List ℕ
   pub blobs : List Blob
-  pub most : ℕ
+  pub waited : ℕ
 
 abbrev pub scanned : List ℕ → List Blob → ℕ → Scanned
-scanned s l d = record { seen = s; blobs = l; most = d }
+scanned s l d = record { seen = s; blobs = l; waited = d }
 
 abbrev pub listed : Scanned → Flooding → Scanned
-listed s f = scanned (f .seen) (s .blobs ++ (f .blob ∷ [])) (max (s .most) (f .most))
+listed s f = scanned (f .seen) (s .blobs ++ (f .blob ∷ [])) (max (s .waited) (f .waited))
 
 -- the pixel i starts a patch where it is dark and not yet marked
 unfoldable pub scan : List ℕ → ℕ → ℕ → Scanned → Scanned
@@ -119,6 +119,6 @@ unmarked m = scanned (replicate (length m) 0) [] 0
 unfoldable pub scanAll : List ℕ → ℕ → Scanned
 scanAll m w = turns (length m) (scan m w) (unmarked m)
 
--- "the highest number of pixels waiting": of the mask alone
-abbrev pub mostWaiting : List ℕ → ℕ → ℕ
-mostWaiting m w = scanAll m w .most
+-- [7.5] the highest number of pixels waiting, of the mask alone
+abbrev pub waitedOf : List ℕ → ℕ → ℕ
+waitedOf m w = scanAll m w .waited

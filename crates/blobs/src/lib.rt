@@ -1,12 +1,15 @@
 // Patches of dark pixels.
 pub mod internal; // internal.rt: labelling without the tests, for the layers above
+pub mod patch;
+mod visit;
 
 use frame::Verdict;
 ghost use mathlib.Core.Path.{_≡_};
 ghost use Rattle.frame.specs.Refusals.{lowestOf};
+ghost use Rattle.blobs.specs.Areas.{patchAreas};
 ghost use Rattle.blobs.specs.Contracts.{patchTests, Labelling};
 
-// The record of a patch (document 01's patch record).
+// The record of a patch (requirements, 7.3).
 pub struct Blob {
     pub area: u64,
     pub sx: u64,
@@ -21,7 +24,7 @@ pub struct Blob {
 pub struct LabelAnswer {
     pub verdict: Verdict,
     pub patches: usize,
-    pub waiting: usize,
+    pub waited: usize,
 }
 
 // The number of a refusal by the sides and the areas' lengths, or 0.
@@ -57,22 +60,23 @@ pub fn label_blobs(
     waiting: &mut [u32],
     patches: &mut [u64],
 ) -> LabelAnswer
-    ensures { λ r. ⌜ Labelling (now (mask .entry)) w h (now (seen .entry)) (now (waiting .entry))
-        (now (patches .entry)) (now (seen .exit)) (now (waiting .exit)) (now (patches .exit)) (r .verdict)
-        (r .patches) (r .waiting) ⌝ }
+    ensures { λ r. ⌜ Labelling (now (mask .entry)) w h
+        (patchAreas (now (seen .entry)) (now (waiting .entry)) (now (patches .entry)))
+        (patchAreas (now (seen .exit)) (now (waiting .exit)) (now (patches .exit)))
+        (r .verdict) (r .patches) (r .waited) ⌝ }
 {
     let n = refusal(w, h, mask.len(), seen.len(), waiting.len(), patches.len());
     if n != 0 {
         return LabelAnswer {
             verdict: Verdict::Refused(n),
             patches: 0,
-            waiting: 0,
+            waited: 0,
         };
     }
     let l = internal::label(mask, w, h, seen, waiting, patches);
     LabelAnswer {
         verdict: Verdict::Accepted,
         patches: l.patches,
-        waiting: l.waiting,
+        waited: l.waited,
     }
 }

@@ -1,4 +1,5 @@
--- What a look finds is decided by the capture and the frame: "no answer depends on prior work-area contents". Assumes nothing.
+-- What a look finds is decided by the capture and the frame: [14.3] no answer depends on what the work areas
+-- held before. Assumes nothing.
 use Prim.Native.Nat.{ℕ, _≤_, _<_}
 use mathlib.Core.Path.{_≡_, sym, ap, subst, _∙_}
 use mathlib.Core.List.{List}
@@ -11,24 +12,25 @@ use Rattle.frame.specs.declared.FrameSpec.{FrameSpec}
 use Rattle.sampling.specs.Luma.{lumaPlane}
 use Rattle.mask.specs.Mask.{maskPlane}
 use Rattle.blobs.specs.Patches.{patchAt}
+use Rattle.blobs.proofs.Unique.{list-number, list-records}
 use Rattle.candidates.specs.Agreement.{SameLook}
 use Rattle.candidates.specs.Areas.{Areas, pixels, integralLength}
 use Rattle.candidates.specs.Bounds.{Ready}
 use Rattle.candidates.specs.Contracts.{Looked}
 use Rattle.candidates.specs.Ring.{candidateAt, CandidateList}
-use Rattle.candidates.proofs.Unique.{list-number, list-records, candidates-number, candidates-records}
+use Rattle.candidates.proofs.Unique.{candidates-number, candidates-records}
 
 -- a plane, from two areas that held other things
 plane : {A : Type 0} (g : ℕ → A) (n : ℕ) (d : A) (x x′ : List A) {y y′ : List A} → y ≡ filled g n x → y′ ≡ filled g n x′ → n ≤ length x
     → n ≤ length x′ → take n y ≡ take n y′
 plane g n d x x′ p p′ l l′ = ap (take n) p ∙ take-filled g n d x l ∙ sym (ap (take n) p′ ∙ take-filled g n d x′ l′)
 
-module _ (img : Image) (f : FrameSpec) (a b a′ b′ : Areas) (n k deep n′ k′ deep′ : ℕ) (h : Looked img f a b n k deep) (h′ : Looked img f a′ b′ n′ k′ deep′) where
+module _ (img : Image) (f : FrameSpec) (a b a′ b′ : Areas) (n k waited n′ k′ waited′ : ℕ) (h : Looked img f a b n k waited) (h′ : Looked img f a′ b′ n′ k′ waited′) where
   pub same-patches : n ≡ n′
   same-patches = list-number (maskPlane img f) (img .w) (h .patches) (h′ .patches)
 
-  pub same-waiting : deep ≡ deep′
-  same-waiting = h .waited-is ∙ sym (h′ .waited-is)
+  pub same-waited : waited ≡ waited′
+  same-waited = h .waited-is ∙ sym (h′ .waited-is)
 
   pub same-patch : (j : ℕ) → j < n → patchAt (b .patches) j ≡ patchAt (b′ .patches) j
   same-patch j l = list-records (maskPlane img f) (img .w) (h .patches) (h′ .patches) j l

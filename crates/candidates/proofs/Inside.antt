@@ -4,19 +4,15 @@ use mathlib.Core.Path.{_≡_, refl, sym, subst, _∙_}
 use mathlib.Core.Bool.{Bool, true, false, _||_}
 use native.Mathlib.Nat.{div-lt-iff-lt-mul, mul-one, lt-of-not-le}
 use native.Mathlib.Omega.{arith}
-use lib.Dec.{T}
-use lib.Ieee.{Float, nan, inf, fin, binary64, up, down, ofInt, lt, le, eq, toUnsigned}
-use lib.Ieee.Back.{round-whole}
+use lib.Ieee.{Float, nan, inf, fin, up, down, lt, le, eq, toUnsigned}
 use lib.Ieee.Exact.{HasValue}
 use lib.Ieee.Fits.{down-pos}
 use lib.Ieee.Order.{le-of-values}
 use Rattle.base.proofs.Arith.{product-le, row-in}
+use Rattle.base.proofs.Tests.{or-left, or-right, holds, refuted}
 use Rattle.float.specs.Floats.{f64, asUsize}
+use Rattle.float.proofs.Numbers.{f64-value}
 use Rattle.frame.specs.Image.{outside}
-
-whole-value : (n : ℕ) → n ≤ 4096 → HasValue (f64 n) false n 1
-unfolding ofInt
-whole-value n h = round-whole binary64 false n (omega arith)
 
 no-infinity : (x : Float) (n : ℕ) → HasValue x false n 1 → le x (inf false) ≡ true
 unfolding le lt eq
@@ -24,44 +20,30 @@ no-infinity nan n h = absurd h
 no-infinity (inf s) n h = absurd h
 no-infinity (fin s m e) n h = refl
 
-refuted : (b : Bool) → b ≡ false → T b → ⊥
-refuted true e t = subst T e tt
-refuted false e t = t
-
 -- what is not n or more is cut to less than n
 pub cut-below : (n : ℕ) (x : Float) → 1 ≤ n → n ≤ 4096 → le (f64 n) x ≡ false → asUsize x < n
 unfolding toUnsigned
 cut-below n nan o h e = o
 cut-below n (inf true) o h e = o
-cut-below n (inf false) o h e = absurd (refuted (le (f64 n) (inf false)) e (subst T (sym (no-infinity (f64 n) n (whole-value n h))) tt))
+cut-below n (inf false) o h e = absurd (refuted (le (f64 n) (inf false)) e (holds (no-infinity (f64 n) n (f64-value n (omega arith)))))
 cut-below n (fin true m k) o h e = o
 cut-below n (fin false m k) o h e =
     let less : m * up k < n * down k =
     lt-of-not-le (λ g. refuted (le (f64 n) (fin false m k)) e
-    (le-of-values (f64 n) (fin false m k) n 1 (m * up k) (down k) (omega arith) (down-pos k) (whole-value n h)
+    (le-of-values (f64 n) (fin false m k) n 1 (m * up k) (down k) (omega arith) (down-pos k) (f64-value n (omega arith))
     (refl, refl) (subst (λ z. n * down k ≤ z) (sym (mul-one (m * up k))) g))) in
     let cut : m * up k / down k < n = div-lt-iff-lt-mul (down-pos k) .1 less in
     omega arith
-
-last : (a b c d : Bool) → (a || b || c || d) ≡ false → d ≡ false
-last true b c d e = absurd (refuted true e tt)
-last false true c d e = absurd (refuted true e tt)
-last false false true d e = absurd (refuted true e tt)
-last false false false d e = e
-
-third : (a b c d : Bool) → (a || b || c || d) ≡ false → c ≡ false
-third true b c d e = absurd (refuted true e tt)
-third false true c d e = absurd (refuted true e tt)
-third false false true d e = e
-third false false false d e = refl
 
 -- the pixel of a place in the picture
 pub pixel-in : (w h : ℕ) (x y : Float) → 1 ≤ w → w ≤ 4096 → 1 ≤ h → h ≤ 4096 → outside w h x y ≡ false → (asUsize x < w) × (asUsize y < h)
     × (asUsize y * w + asUsize x < w * h)
 unfolding outside
 pixel-in w h x y w1 w2 h1 h2 e =
-    let cx : asUsize x < w = cut-below w x w1 w2 (third (lt x (f64 0)) (lt y (f64 0)) (le (f64 w) x) (le (f64 h) y) e) in
-    let cy : asUsize y < h = cut-below h y h1 h2 (last (lt x (f64 0)) (lt y (f64 0)) (le (f64 w) x) (le (f64 h) y) e) in
+    let past = lt x (f64 0) || lt y (f64 0) in
+    let ex : (past || le (f64 w) x) ≡ false = or-left (past || le (f64 w) x) (le (f64 h) y) e in
+    let cx : asUsize x < w = cut-below w x w1 w2 (or-right past (le (f64 w) x) ex) in
+    let cy : asUsize y < h = cut-below h y h1 h2 (or-right (past || le (f64 w) x) (le (f64 h) y) e) in
     (cx, cy, row-in (asUsize x) (asUsize y) w h cx cy)
 
 -- .. with its number worked out from the cut coordinates x′ and y′

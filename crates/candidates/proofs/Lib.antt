@@ -6,7 +6,6 @@ pub mod Sums
 pub mod Held
 pub mod Rules
 pub mod Listing
-pub mod Enumerations
 pub mod Unique
 pub mod Refusing
 pub mod Looks

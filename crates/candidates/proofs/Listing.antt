@@ -2,18 +2,20 @@
 use Prim.Native.Nat.{ℕ, _+_, _*_, _/_, _≤_, _<_}
 use mathlib.Core.Path.{_≡_, refl, sym, ap, subst, _∙_}
 use mathlib.Core.Bool.{false}
-use mathlib.Core.Logic.{_⊎_, ⊎-elim}
+use mathlib.Core.Logic.{⊎-elim}
 use mathlib.Core.List.{List}
-use native.Mathlib.Nat.{eq-or-lt-of-le}
 use native.Mathlib.Omega.{arith}
 use lib.Dec.{T}
 use lib.ListN.{length, getD, set, drop, length-set}
-use lib.Seq.{getD-set-same, getD-set-other, drop-set-lt, drop-drop}
+use lib.Seq.{getD-set-same, getD-set-other, drop-set-lt}
 use lib.Ieee.{Float, nan}
-use Rattle.frame.proofs.Tests.{either}
+use Rattle.base.proofs.Tests.{either}
+use Rattle.base.proofs.Arith.{last-or}
+use Rattle.base.proofs.Parts.{drop-later}
 use Rattle.frame.specs.declared.Point.{Point}
 use Rattle.blobs.specs.Patches.{total, one, ink, patchAt}
 use Rattle.blobs.specs.declared.Blob.{Blob}
+use Rattle.blobs.proofs.Sums.{total-next}
 use Rattle.candidates.specs.Ring.{passes, ringScore, center, sizeOf, ringOf, candidateOf, centerAt, candidateAt, CandidateList}
 use Rattle.candidates.specs.Bounds.{Listable, Storable, storedRecord, storedPlace, storedCount}
 use Rattle.candidates.specs.declared.Ring.{Ring}
@@ -21,10 +23,7 @@ use Rattle.candidates.specs.declared.Ring.the-variants.{Passed, Failed}
 use Rattle.candidates.proofs.Fours.{four-set, four-long, four-0, four-1, four-2, four-3, four-before, four-rest}
 use Rattle.candidates.proofs.Held.{pixels-held}
 use Rattle.candidates.proofs.Rules.{passes-area, ring-yes, ring-no}
-use Rattle.candidates.proofs.Sums.{ink-few, total-next, total-grows}
-
-last-or : (i n : ℕ) → i < n + 1 → (i ≡ n) ⊎ (i < n)
-last-or i n h = eq-or-lt-of-le (let k : i ≤ n = omega arith in k)
+use Rattle.candidates.proofs.Sums.{ink-few, total-grows}
 
 module _ (m : List ℕ) (luma : List Float) (w h : ℕ) (t : ℕ → Blob) where
   -- no patch yet
@@ -55,7 +54,7 @@ module _ (m : List ℕ) (luma : List Float) (w h : ℕ) (t : ℕ → Blob) where
           every = λ j l x. ⊎-elim
               (λ d. absurd (subst T (ap (λ z. passes m luma w h (t z)) d ∙ e) x))
               (λ d. H .every j d x)
-              (last-or j n l);
+              (last-or j n (omega arith));
           records = H .records;
           c-rest = H .c-rest;
           p-rest = H .p-rest;
@@ -103,9 +102,6 @@ module _ (m : List ℕ) (luma : List Float) (w h : ℕ) (t : ℕ → Blob) where
           let e4 = at-old i l in
           λ q. record { center = record { x = e0 q; y = e1 q }; score = e2 q; size = e3 q; «blob_index» = e4 q }
 
-      rest-of : {A : Type 0} (a b : List A) (i j : ℕ) → drop i a ≡ drop i b → drop (i + j) a ≡ drop (i + j) b
-      rest-of a b i j e = sym (drop-drop j i a) ∙ ap (drop j) e ∙ drop-drop j i b
-
       -- a patch that passes
       list-added : CandidateList m luma w h t (n + 1) c₀ p₀ c′ p′ (k + 1)
       list-added =
@@ -115,30 +111,30 @@ module _ (m : List ℕ) (luma : List Float) (w h : ℕ) (t : ℕ → Blob) where
             listed = λ i l. ⊎-elim
                 (λ e. subst (λ z. z < n + 1) (sym (at-new i e)) (omega arith))
                 (λ e. subst (λ z. z < n + 1) (sym (at-old i e)) (let a = H .listed i e in omega arith))
-                (last-or i k l);
+                (last-or i k (omega arith));
             passing = λ i l. ⊎-elim
                 (λ e. subst (λ z. T (passes m luma w h (t z))) (sym (at-new i e)) pass)
                 (λ e. subst (λ z. T (passes m luma w h (t z))) (sym (at-old i e)) (H .passing i e))
-                (last-or i k l);
+                (last-or i k (omega arith));
             ordered = λ i j l r. ⊎-elim
                 (λ e. subst (λ z. z < getD p′ j 0) (sym (at-old i (omega arith))) (subst (λ z. getD p i 0 < z) (sym (at-new j e)) (H .listed i (omega arith))))
                 (λ e. subst (λ z. z < getD p′ j 0) (sym (at-old i (omega arith))) (subst (λ z. getD p i 0 < z) (sym (at-old j e)) (H .ordered i j l e)))
-                (last-or j k r);
+                (last-or j k (omega arith));
             every = λ j l x. ⊎-elim
                 (λ e. (k, omega arith, at-new k refl ∙ sym e))
                 (λ e. let a = H .every j e x in (a .0, let b = a .1 in omega arith, at-old (a .0) (a .1) ∙ a .2))
-                (last-or j n l);
+                (last-or j n (omega arith));
             records = λ i l. ⊎-elim
                 (λ e. subst (λ z. candidateAt c′ p′ z ≡ candidateOf m luma w h (getD p′ z 0) (t (getD p′ z 0))) (sym e)
                 (record-new ∙ ap (λ z. candidateOf m luma w h z (t z)) (sym (at-new k refl))))
                 (λ e. record-old i e ∙ H .records i e ∙ ap (λ z. candidateOf m luma w h z (t z)) (sym (at-old i e)))
-                (last-or i k l);
+                (last-or i k (omega arith));
             c-rest =
                 let e : 4 * k + 4 ≡ 4 * (k + 1) = omega arith in
                 subst (λ z. drop z c′ ≡ drop z c₀) e
                 (four-rest c (4 * k) (center (t n) .x) (center (t n) .y) (ringScore m luma w h (t n)) (sizeOf (t n)) nan room
-                ∙ rest-of c c₀ (4 * k) 4 (H .c-rest));
-            p-rest = drop-set-lt (k + 1) p k n (omega arith) ∙ rest-of p p₀ k 1 (H .p-rest);
+                ∙ drop-later (4 * k) (4 * k + 4) c c₀ (omega arith) (H .c-rest));
+            p-rest = drop-set-lt (k + 1) p k n (omega arith) ∙ drop-later k (k + 1) p p₀ (omega arith) (H .p-rest);
           }
 
   -- ---- a turn of the loop

@@ -1,5 +1,5 @@
 -- A look at the picture, from what its parts leave. Assumes nothing.
-use Prim.Native.Nat.{ℕ, zero, suc, _*_, _/_, _%_, _≤_, _<_, min}
+use Prim.Native.Nat.{ℕ, _*_, _/_, _%_, _≤_, _<_, min}
 use mathlib.Core.Path.{_≡_, refl, sym, ap, subst, _∙_}
 use mathlib.Core.Bool.{Bool, true, false, cond}
 use mathlib.Core.List.{List}
@@ -10,12 +10,12 @@ use Rattle.base.specs.Loops.{filled, byRow}
 use Rattle.base.proofs.Plane.{length-filled, filled-at, filled-past, filled-is}
 use Rattle.base.proofs.Table.{length-table, table-at, take-filled}
 use Rattle.frame.specs.Image.{Image}
-use Rattle.frame.specs.Refusals.{lowestOf, verdictOf}
+use Rattle.frame.specs.Refusals.{lowestOf}
 use Rattle.frame.specs.declared.FrameSpec.{FrameSpec}
-use Rattle.frame.specs.declared.Verdict.the-variants.{Accepted, Refused}
 use Rattle.sampling.specs.Luma.{lumaAt, lumaPlane}
 use Rattle.mask.specs.Mask.{maskEntry, maskPlane, isDark, radius}
 use Rattle.mask.specs.Planes.{Planes}
+use Rattle.blobs.specs.Areas.{PatchAreas, patchAreas}
 use Rattle.blobs.specs.Labels.{Labels}
 use Rattle.blobs.specs.Patches.{ink, patchAt}
 use Rattle.blobs.specs.declared.Blob.{Blob}
@@ -34,7 +34,7 @@ bit : (b : Bool) → min (cond b 1 0) 1 ≡ cond b 1 0
 bit true = refl
 bit false = refl
 
--- "the visited marks equal the mask"
+-- [2.18] the visited marks equal the mask
 ink-mask : (img : Image) (f : FrameSpec) (q : ℕ) → q < img .w * img .h → ink (maskPlane img f) q ≡ maskEntry img f q
 unfolding maskPlane byRow
 ink-mask img f q l =
@@ -79,8 +79,8 @@ module _ (img : Image) (f : FrameSpec) (a : Areas) (R : Ready img f a) where
         luma-long = luma-long;
       }
 
-  pub listable : {seen waiting patches : List ℕ} {n deep : ℕ} → Labels (maskPlane img f) (img .w) (img .h) (a .seen) (a .waiting) (a .patches) seen waiting patches n deep
-      → Listable (img .w) (img .h) (maskPlane img f) (lumaPlane img) patches n (a .candidates) (a .«blob_index»)
+  pub listable : {b : PatchAreas} {n waited : ℕ} → Labels (maskPlane img f) (img .w) (img .h) (patchAreas (a .seen) (a .waiting) (a .patches)) b n waited
+      → Listable (img .w) (img .h) (maskPlane img f) (lumaPlane img) (b .patches) n (a .candidates) (a .«blob_index»)
   listable L =
       record {
         planes = planes-held;
@@ -97,11 +97,11 @@ module _ (img : Image) (f : FrameSpec) (a : Areas) (R : Ready img f a) where
         places-long = R .places-room;
       }
 
-  pub looked : {luma integral : List Float} {mask seen waiting patches : List ℕ} {candidates : List Float} {places : List ℕ} {n k deep : ℕ}
+  pub looked : {luma integral : List Float} {mask : List ℕ} {b : PatchAreas} {candidates : List Float} {places : List ℕ} {n k waited : ℕ}
       → Planes img f (a .luma) (a .integral) (a .mask) luma integral mask
-      → Labels (maskPlane img f) (img .w) (img .h) (a .seen) (a .waiting) (a .patches) seen waiting patches n deep
-      → CandidateList (maskPlane img f) (lumaPlane img) (img .w) (img .h) (patchAt patches) n (a .candidates) (a .«blob_index») candidates places k
-      → Looked img f a (areas luma integral mask seen waiting patches candidates places) n k deep
+      → Labels (maskPlane img f) (img .w) (img .h) (patchAreas (a .seen) (a .waiting) (a .patches)) b n waited
+      → CandidateList (maskPlane img f) (lumaPlane img) (img .w) (img .h) (patchAt (b .patches)) n (a .candidates) (a .«blob_index») candidates places k
+      → Looked img f a (areas luma integral mask (b .seen) (b .waiting) (b .patches) candidates places) n k waited
   looked P L C =
       record {
         luma = P .luma-is;
@@ -111,28 +111,17 @@ module _ (img : Image) (f : FrameSpec) (a : Areas) (R : Ready img f a) where
         firsts = L .firsts;
         patches = L .records;
         candidates = C;
-        waited = L .waited;
+        waited-held = L .waited-held;
         patches-are = L .blobs;
-        waited-is = L .most-is;
+        waited-is = L .waited-is;
         waiting-long = L .waiting-long;
         waiting-rest = L .waiting-rest;
       }
 
--- ---- verdicts
-
-pub verdict-refused : (n : ℕ) → (n ≡ 0 → ⊥) → Refused n ≡ verdictOf n
-unfolding verdictOf
-verdict-refused zero h = absurd (h refl)
-verdict-refused (suc n) h = refl
-
-pub verdict-accepted : (n : ℕ) → n ≡ 0 → Accepted ≡ verdictOf n
-unfolding verdictOf
-verdict-accepted n e = rw e
-
 -- ---- the planes' fronts in the place of the planes
 
-pub labels-as : {m m′ : List ℕ} {w h : ℕ} {s k l s′ k′ l′ : List ℕ} {n d : ℕ} → m ≡ m′ → Labels m w h s k l s′ k′ l′ n d → Labels m′ w h s k l s′ k′ l′ n d
-labels-as {w = w} {h = h} {s = s} {k = k} {l = l} {s′ = s′} {k′ = k′} {l′ = l′} {n = n} {d = d} e L = subst (λ z. Labels z w h s k l s′ k′ l′ n d) e L
+pub labels-as : {m m′ : List ℕ} {w h : ℕ} {a b : PatchAreas} {n d : ℕ} → m ≡ m′ → Labels m w h a b n d → Labels m′ w h a b n d
+labels-as {w = w} {h = h} {a = a} {b = b} {n = n} {d = d} e L = subst (λ z. Labels z w h a b n d) e L
 
 pub listable-as : {m m′ : List ℕ} {u u′ : List Float} {w h : ℕ} {l : List ℕ} {n : ℕ} {c : List Float} {p : List ℕ} → m ≡ m′ → u ≡ u′
     → Listable w h m′ u′ l n c p → Listable w h m u l n c p

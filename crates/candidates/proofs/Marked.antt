@@ -1,4 +1,4 @@
--- Document 01's marked examples M9 and M10, over what the probes found. Assumes nothing.
+-- The marked examples M9 and M10, over what the probes found. Assumes nothing.
 use mathlib.Core.Path.{_≡_, refl, ap, _∙_}
 use mathlib.Core.Bool.{Bool, true, false, cond, _||_}
 use lib.Dec.{ltb, eqb}
@@ -34,7 +34,7 @@ fourteen : enough (f64 14 ⊘ f64 17) ≡ true
 unfolding enough d64 ofInt div le lt eq
 fourteen = refl
 
--- "M9 14 of 17 probes pass, 13 do not. M10 7 of 9 do not."
+-- [15.1] M9 14 of 17 probes pass, 13 do not. M10 7 of 9 do not.
 pub thirteen-fail : (s : Tally) → s .hits ≡ 13 → s .made ≡ 17 → enough (shareOf s) ≡ false
 thirteen-fail s h m = too-few s (ap (λ z. enough (f64 z ⊘ f64 (s .made))) h ∙ ap (λ z. enough (f64 13 ⊘ f64 z)) m ∙ thirteen)
 

@@ -5,7 +5,7 @@ use mathlib.Core.Bool.{Bool, true, false, cond, _||_}
 use mathlib.Core.Logic.{inl, inr}
 use native.Mathlib.Omega.{arith}
 use borrow.Author.Tests.{ltb-false}
-use lib.Dec.{T, ltb}
+use lib.Dec.{ltb}
 use Rattle.frame.specs.Image.{Image}
 use Rattle.frame.specs.Limits.{FrameHeld, CaptureHeld}
 use Rattle.frame.specs.Refusals.{Lowest, Tested, lowestOf, frameOutside, captureWrong, captureSmall}
@@ -13,15 +13,11 @@ use Rattle.frame.specs.Refusals.Lowest.{accepted, refused}
 use Rattle.frame.specs.declared.FrameSpec.{FrameSpec}
 use Rattle.frame.proofs.Held.{frame-held, capture-held}
 use Rattle.frame.proofs.Lowest.{Rising, lowest-of, none-tested}
-use Rattle.frame.proofs.Tests.{or-left, or-right}
+use Rattle.base.proofs.Tests.{or-left, or-right, fails}
 use Rattle.markers.specs.Layout.{noLayout}
 use Rattle.candidates.specs.Areas.{Areas, lengthsOf, smallest, shorter, areaShort, pictureTests}
 use Rattle.candidates.specs.Bounds.{Ready}
 use Rattle.candidates.specs.declared.Lengths.{Lengths}
-
-fails : (b : Bool) → (T b → ⊥) → b ≡ false
-fails true h = absurd (h tt)
-fails false h = refl
 
 -- what is known where no test holds
 pub record Clear (img : Image) (f : FrameSpec) (short wrong : Bool) : Type 0 where

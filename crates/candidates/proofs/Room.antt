@@ -6,9 +6,10 @@ use native.Mathlib.Omega.{arith}
 use lib.ListN.{length, getD}
 use lib.Ieee.{Float}
 use Rattle.blobs.specs.Patches.{total, one, ink, patchAt, PatchList}
+use Rattle.blobs.proofs.Sums.{total-next}
 use Rattle.candidates.specs.Ring.{CandidateList}
 use Rattle.candidates.proofs.Rules.{passes-area}
-use Rattle.candidates.proofs.Sums.{ink-few, total-next, total-grows}
+use Rattle.candidates.proofs.Sums.{ink-few, total-grows}
 
 module _ {m : List ℕ} {luma : List Float} {w h : ℕ} {l l′ : List ℕ} {n : ℕ} {firsts : List ℕ} {c : List Float} {p : List ℕ} {c′ : List Float} {p′ : List ℕ} {k : ℕ}
     (P : PatchList m w l l′ n firsts) (C : CandidateList m luma w h (patchAt l′) n c p c′ p′ k) where

@@ -9,12 +9,12 @@ use lib.Ieee.Fits.{and-l}
 use Rattle.base.proofs.Pick.{pick-yes, pick-no}
 use Rattle.float.specs.Floats.{_⊗_, _⊘_, f64, d64}
 use Rattle.frame.specs.declared.Point.{Point}
-use Rattle.frame.proofs.Tests.{and-both}
+use Rattle.base.proofs.Tests.{and-both}
 use Rattle.blobs.specs.declared.Blob.{Blob}
 use Rattle.candidates.specs.Ring.{passes, shaped, enough, ringScore, wide, high, center, sizeOf, ringOf}
 use Rattle.candidates.specs.declared.Ring.the-variants.{Passed, Failed}
 
--- "Area ≥ 32"
+-- [8.1] area at least 32
 pub shaped-area : (w h : ℕ) (t : Blob) → T (shaped w h t) → 32 ≤ t .area
 unfolding shaped
 shaped-area w h t k =

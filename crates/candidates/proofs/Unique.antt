@@ -1,78 +1,14 @@
--- The mask decides the patches' records, and the planes the candidates. Assumes nothing.
-use Prim.Native.Nat.{ℕ, zero, suc, _*_, _≤_, _<_}
-use mathlib.Core.Path.{_≡_, refl, sym, ap, subst, _∙_}
-use mathlib.Core.Logic.{⊎-elim}
+-- The planes decide the candidates: among patches with the same records there is one list of them. Assumes nothing.
+use Prim.Native.Nat.{ℕ, _<_}
+use mathlib.Core.Path.{_≡_, sym, ap, subst, _∙_}
 use mathlib.Core.List.{List}
-use native.Mathlib.Nat.{le-antisymm}
-use native.Mathlib.Omega.{arith}
 use lib.Dec.{T}
 use lib.Ieee.{Float}
-use lib.ListN.{length, getD}
-use Rattle.blobs.specs.Patches.{Joined, total, Marks, Least, Greatest, one, column, row, PatchOf, First, patchAt, PatchList}
-use Rattle.blobs.proofs.Joins.{joined-sym}
+use lib.ListN.{getD}
+use Rattle.base.proofs.Enumerations.{Within, within-same, within-number}
 use Rattle.blobs.specs.declared.Blob.{Blob}
 use Rattle.candidates.specs.Ring.{passes, candidateAt, candidateOf, CandidateList}
-use Rattle.candidates.proofs.Enumerations.{Within, within-same, within-number}
 
-marks-same : (c d : ℕ → ℕ) (P : ℕ → Type 0) → Marks c P → Marks d P → (q : ℕ) → c q ≡ d q
-marks-same c d P m n q = ⊎-elim
-    (λ a. ⊎-elim (λ b. a .0 ∙ sym (b .0)) (λ b. absurd (b .1 (a .1))) (n q))
-    (λ a. ⊎-elim (λ b. absurd (a .1 (b .1))) (λ b. a .0 ∙ sym (b .0)) (n q))
-    (m q)
-
-total-same : (f c d : ℕ → ℕ) → ((q : ℕ) → c q ≡ d q) → (n : ℕ) → total f c n ≡ total f d n
-unfolding total
-total-same f c d h zero = refl
-total-same f c d h (suc n) =
-    let a : total f c n ≡ total f d n = total-same f c d h n in
-    let b : c n * f n ≡ d n * f n = ap (λ x. x * f n) (h n) in
-    omega arith
-
-least-same : (f : ℕ → ℕ) (P : ℕ → Type 0) (a b : ℕ) → Least f P a → Least f P b → a ≡ b
-least-same f P a b l m = le-antisymm (subst (λ z. a ≤ z) (m .1 .2) (l .0 (m .1 .0) (m .1 .1))) (subst (λ z. b ≤ z) (l .1 .2) (m .0 (l .1 .0) (l .1 .1)))
-
-greatest-same : (f : ℕ → ℕ) (P : ℕ → Type 0) (a b : ℕ) → Greatest f P a → Greatest f P b → a ≡ b
-greatest-same f P a b l m = le-antisymm (subst (λ z. z ≤ b) (l .1 .2) (m .0 (l .1 .0) (l .1 .1))) (subst (λ z. z ≤ a) (m .1 .2) (l .0 (m .1 .0) (m .1 .1)))
-
--- a patch has one record
-pub patch-unique : (m : List ℕ) (w a : ℕ) (t u : Blob) → PatchOf m w a t → PatchOf m w a u → t ≡ u
-patch-unique m w a t u p q =
-    let J = Joined m w a in
-    let e : (k : ℕ) → p .marks k ≡ q .marks k = marks-same (p .marks) (q .marks) J (p .marked) (q .marked) in
-    let k0 : t .area ≡ u .area = p .area-is ∙ total-same one (p .marks) (q .marks) e (length m) ∙ sym (q .area-is) in
-    let k1 : t .sx ≡ u .sx = p .sx-is ∙ total-same (column w) (p .marks) (q .marks) e (length m) ∙ sym (q .sx-is) in
-    let k2 : t .sy ≡ u .sy = p .sy-is ∙ total-same (row w) (p .marks) (q .marks) e (length m) ∙ sym (q .sy-is) in
-    let k3 : t .x0 ≡ u .x0 = least-same (column w) J (t .x0) (u .x0) (p .x0-is) (q .x0-is) in
-    let k4 : t .y0 ≡ u .y0 = least-same (row w) J (t .y0) (u .y0) (p .y0-is) (q .y0-is) in
-    let k5 : t .x1 ≡ u .x1 = greatest-same (column w) J (t .x1) (u .x1) (p .x1-is) (q .x1-is) in
-    let k6 : t .y1 ≡ u .y1 = greatest-same (row w) J (t .y1) (u .y1) (p .y1-is) (q .y1-is) in
-    λ i. record { area = k0 i; sx = k1 i; sy = k2 i; x0 = k3 i; y0 = k4 i; x1 = k5 i; y1 = k6 i }
-
-module _ (m : List ℕ) (w : ℕ) where
-  -- every first pixel stands in the list
-  pub listed : {l l′ : List ℕ} {n : ℕ} {firsts : List ℕ} → PatchList m w l l′ n firsts → (p : ℕ) → First m w p → (j : ℕ) × (j < n) × (getD firsts j 0 ≡ p)
-  listed {l} {l′} {n} {firsts} h p f =
-      let e = h .every p (f .0) in
-      (e .0, e .1, le-antisymm (h .first (e .0) (e .1) .1 p (e .2)) (f .1 (getD firsts (e .0) 0) (joined-sym (e .2))))
-
-  module _ {k k′ l l′ : List ℕ} {n o : ℕ} {F G : List ℕ} (a : PatchList m w k k′ n F) (b : PatchList m w l l′ o G) where
-    firsts-within : Within (λ j. getD F j 0) (λ j. getD G j 0) n o
-    firsts-within = record { rises = a .ordered; found = λ i h. listed b (getD F i 0) (a .first i h) }
-
-  module _ {k k′ l l′ : List ℕ} {n o : ℕ} {F G : List ℕ} (a : PatchList m w k k′ n F) (b : PatchList m w l l′ o G) where
-    -- as many patches, with the same first pixels and the same records
-    pub list-number : n ≡ o
-    list-number = within-number (firsts-within a b) (firsts-within b a)
-
-    pub list-firsts : (j : ℕ) → j < n → (j < o) × (getD F j 0 ≡ getD G j 0)
-    list-firsts j h = within-same (firsts-within a b) (firsts-within b a) j h
-
-    pub list-records : (j : ℕ) → j < n → patchAt k′ j ≡ patchAt l′ j
-    list-records j h =
-        let e = list-firsts j h in
-        patch-unique m w (getD F j 0) (patchAt k′ j) (patchAt l′ j) (a .records j h) (subst (λ z. PatchOf m w z (patchAt l′ j)) (sym (e .1)) (b .records j (e .0)))
-
--- the candidates, among patches with the same records
 module _ (m : List ℕ) (luma : List Float) (w h : ℕ) {t u : ℕ → Blob} {n : ℕ} where
   places-within : {c c′ d d′ : List Float} {p p′ q q′ : List ℕ} {k o : ℕ} → CandidateList m luma w h t n c p c′ p′ k → CandidateList m luma w h u n d q d′ q′ o
       → ((j : ℕ) → j < n → t j ≡ u j) → Within (λ i. getD p′ i 0) (λ i. getD q′ i 0) k o

@@ -1,5 +1,5 @@
--- "no answer depends on prior work-area contents": what two looks at one picture leave alike, whatever the areas held
--- and however long they are. proofs/Determined shows it from what a look promises. Assumes nothing.
+-- [14.3] no answer depends on what the work areas held before: what two looks at one picture leave alike, whatever
+-- the areas held and however long they are. proofs/Determined shows it from what a look promises. Assumes nothing.
 use Prim.Native.Nat.{ℕ, _<_}
 use mathlib.Core.Path.{_≡_}
 use lib.ListN.{take}

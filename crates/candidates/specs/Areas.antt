@@ -56,8 +56,8 @@ lengthsOf a =
       «blob_index» = length (a .«blob_index»);
     }
 
--- "Work areas, smallest lengths": "luma, mask, visited marks and waiting list w·h entries each; integral (w+1)·(h+1);
--- patch records ⌈w·h/2⌉; candidate records ⌊w·h/32⌋"
+-- [3.1] the smallest lengths: luma, mask, visited marks and waiting list w·h entries each; integral (w+1)·(h+1); patch
+-- records ⌈w·h/2⌉; candidate records ⌊w·h/32⌋
 abbrev pub pixels : Image → ℕ
 pixels img = img .w * img .h
 
@@ -77,7 +77,7 @@ smallest w h =
       «blob_index» = w * h / 32;
     }
 
--- "3: a work area too short": l against the smallest lengths s
+-- [2.3] 3: a work area is too short; l against the smallest lengths s
 unfoldable pub shorter : Lengths → Lengths → Bool
 shorter l s =
     ltb (l .luma) (s .luma)
@@ -92,9 +92,8 @@ shorter l s =
 abbrev pub areaShort : Image → Areas → Bool
 areaShort img a = shorter (lengthsOf a) (smallest (img .w) (img .h))
 
--- ---- the tests of a call on a picture: "The lowest number that applies is given, and each call makes the checks that
--- concern what it is handed". short: a work area of the call is too short; wrong: its canonical image is not of the
--- right length, false where it is handed none
+-- ---- [2.1 to 2.6, 2.12, 2.13] the tests of a call on a picture, each call's by what it is handed. short: a work area
+-- of the call is too short; wrong: its canonical image is not of the right length, false where it is handed none
 unfoldable pub pictureTests : Image → FrameSpec → Bool → Bool → List Check
 pictureTests img f short wrong =
     check 1 (frameOutside f)

@@ -1,4 +1,4 @@
--- The ring rule and the candidates (document 01, "Ring rule"). m is the mask and luma the luma plane of a picture w
+-- The ring rule and the candidates (requirements, 8). m is the mask and luma the luma plane of a picture w
 -- by h. Assumes nothing.
 use Prim.Native.Nat.{ℕ, _+_, _*_, _-_, _/_, _<_, min}
 use mathlib.Core.Path.{_≡_}
@@ -37,7 +37,7 @@ arms t s dark =
     ∷ record { x = cx; y = cy ⊖ dy; dark = dark }
     ∷ []
 
--- "Seventeen probes as in `verify_bullseye`": the centre, then dot, white ring, black ring and quiet zone
+-- [8.2] seventeen probes as in `verify_bullseye`: the centre, then dot, white ring, black ring and quiet zone
 unfoldable pub probes : Blob → List Probe
 probes t =
     record { x = middle (t .x0) (t .x1); y = middle (t .y0) (t .y1); dark = true }
@@ -66,7 +66,7 @@ tallied e l dark s =
       lights = s .lights + 1;
     })
 
--- "those outside the picture are skipped"
+-- [8.2] those outside the picture are skipped
 abbrev pub probeStep : List ℕ → List Float → ℕ → ℕ → Probe → Tally → Tally
 probeStep m luma w h p s =
     let i = asUsize (p .y) * w + asUsize (p .x) in
@@ -79,8 +79,8 @@ probed m luma w h (p ∷ l) s = probed m luma w h l (probeStep m luma w h p s)
 abbrev pub noneMade : Tally
 noneMade = record { hits = 0; made = 0; «dark_sum» = f64 0; darks = 0; «light_sum» = f64 0; lights = 0 }
 
--- "fewer than 9, or no dark or no light probe, scores 0; likewise light mean − dark mean below 30"; else the share
--- that agreed
+-- [8.3] fewer than 9 probes, or no dark or no light one, score 0; likewise light mean − dark mean below 30. Else it is
+-- the share that agreed
 unfoldable pub shareOf : Tally → Float
 shareOf s =
     cond (ltb (s .made) 9 || eqb (s .darks) 0 || eqb (s .lights) 0) (f64 0)
@@ -90,7 +90,7 @@ shareOf s =
 unfoldable pub ringScore : List ℕ → List Float → ℕ → ℕ → Blob → Float
 ringScore m luma w h t = shareOf (probed m luma w h (probes t) noneMade)
 
--- "Score ≥ 0.78 passes"
+-- [8.4] a score of at least 0.78 passes
 unfoldable pub enough : Float → Bool
 enough s = le (d64 78 100) s
 
@@ -101,7 +101,7 @@ wide t = t .x1 - t .x0 + 1
 abbrev pub high : Blob → ℕ
 high t = t .y1 - t .y0 + 1
 
--- "Area ≥ 32; box sides 10 to ⌊min(w,h)/4⌋; aspect 0.5 to 2.0 and fill 0.20 to 0.85, ends counted"
+-- [8.1] area at least 32; box sides 10 to ⌊min(w,h)/4⌋; aspect 0.5 to 2.0 and fill 0.20 to 0.85, ends counted
 unfoldable pub shaped : ℕ → ℕ → Blob → Bool
 shaped w h t =
     let bw = f64 (wide t) in
@@ -112,16 +112,16 @@ shaped w h t =
     && (le (d64 5 10) (bw ⊘ bh) && le (bw ⊘ bh) (f64 2))
     && (le (d64 20 100) (f64 (t .area) ⊘ (bw ⊗ bh)) && le (f64 (t .area) ⊘ (bw ⊗ bh)) (d64 85 100))
 
--- "A patch passes the ring rule, and is a candidate, exactly when area, sides, aspect, fill and score all keep these
--- bounds"
+-- [8.5] a patch passes the ring rule, and is a candidate, exactly when area, sides, aspect, fill and score all keep
+-- these bounds
 unfoldable pub passes : List ℕ → List Float → ℕ → ℕ → Blob → Bool
 passes m luma w h t = shaped w h t && enough (ringScore m luma w h t)
 
--- "centre x (sum of x / area + 0.5), centre y likewise"
+-- [8.6] centre x is sum of x / area + 0.5, centre y likewise
 unfoldable pub center : Blob → Point
 center t = record { x = f64 (t .sx) ⊘ f64 (t .area) ⊕ d64 5 10; y = f64 (t .sy) ⊘ f64 (t .area) ⊕ d64 5 10 }
 
--- "size (half the sum of the box sides)"
+-- [8.6] size is half the sum of the box sides
 unfoldable pub sizeOf : Blob → Float
 sizeOf t = (f64 (wide t) ⊕ f64 (high t)) ⊘ f64 2
 
@@ -129,7 +129,7 @@ sizeOf t = (f64 (wide t) ⊕ f64 (high t)) ⊘ f64 2
 unfoldable pub ringOf : List ℕ → List Float → ℕ → ℕ → Blob → Ring
 ringOf m luma w h t = cond (passes m luma w h t) (Passed (center t) (ringScore m luma w h t) (sizeOf t)) Failed
 
--- "and, added, its patch's place in the patch list from 0"
+-- [8.6] a candidate record, with its patch's place in the patch list from 0
 unfoldable pub candidateOf : List ℕ → List Float → ℕ → ℕ → ℕ → Blob → Candidate
 candidateOf m luma w h j t = record {
   center = center t;
@@ -164,11 +164,11 @@ pub record CandidateList (m : List ℕ) (luma : List Float) (w h : ℕ) (t : ℕ
   -- each is a patch of the list that passes
   pub listed : (i : ℕ) → i < k → getD p′ i 0 < n
   pub passing : (i : ℕ) → i < k → T (passes m luma w h (t (getD p′ i 0)))
-  -- "Candidates stand in patch order"
+  -- [8.7] candidates stand in patch order
   pub ordered : (i j : ℕ) → i < j → j < k → getD p′ i 0 < getD p′ j 0
-  -- "all their records"
+  -- [2.18] all their records
   pub every : (j : ℕ) → j < n → T (passes m luma w h (t j)) → (i : ℕ) × (i < k) × (getD p′ i 0 ≡ j)
   pub records : (i : ℕ) → i < k → candidateAt c′ p′ i ≡ candidateOf m luma w h (getD p′ i 0) (t (getD p′ i 0))
-  -- "Records past the last .. are unchanged"
+  -- [3.2] records past the last stay as they were
   pub c-rest : drop (candidateLength * k) c′ ≡ drop (candidateLength * k) c
   pub p-rest : drop k p′ ≡ drop k p

@@ -3,13 +3,17 @@ use frame::FrameSpec;
 use frame::Point;
 use frame::Verdict;
 use internal::look;
-use internal::refused;
+use tests::refused;
 ghost use Rattle.frame.specs.Image.{image};
 ghost use Rattle.candidates.specs.Areas.{areas};
 ghost use Rattle.candidates.specs.Contracts.{Listing};
 
+mod bullseye;
 mod constants;
 pub mod internal;
+pub mod list;
+mod ring_rule;
+pub mod tests;
 
 // Least share of the probes that must agree.
 pub const VERIFY_THRESHOLD: f64 = 0.78;
@@ -62,7 +66,7 @@ pub struct Lengths {
 pub struct Counts {
     pub patches: usize,
     pub candidates: usize,
-    pub waiting: usize,
+    pub waited: usize,
 }
 
 // The answer of `fiducial_candidates`: the numbers are 0 where it is refused.
@@ -70,7 +74,7 @@ pub struct Listed {
     pub verdict: Verdict,
     pub patches: usize,
     pub candidates: usize,
-    pub waiting: usize,
+    pub waited: usize,
 }
 
 // Every bullseye-shaped patch in the picture.
@@ -93,7 +97,7 @@ pub fn fiducial_candidates(
         (now (waiting .entry)) (now (patches .entry)) (now (candidates .entry)) (now («blob_index» .entry)))
         (areas (now (luma .exit)) (now (integral .exit)) (now (mask .exit)) (now (seen .exit)) (now (waiting .exit))
         (now (patches .exit)) (now (candidates .exit)) (now («blob_index» .exit)))
-        (r .verdict) (r .patches) (r .candidates) (r .waiting) ⌝ }
+        (r .verdict) (r .patches) (r .candidates) (r .waited) ⌝ }
 {
     let lengths = Lengths {
         luma: luma.len(),
@@ -112,7 +116,7 @@ pub fn fiducial_candidates(
             verdict: verdict,
             patches: 0,
             candidates: 0,
-            waiting: 0,
+            waited: 0,
         };
     }
     let c = look(
@@ -134,6 +138,6 @@ pub fn fiducial_candidates(
         verdict: accepted,
         patches: c.patches,
         candidates: c.candidates,
-        waiting: c.waiting,
+        waited: c.waited,
     }
 }

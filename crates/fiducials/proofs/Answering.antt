@@ -13,14 +13,14 @@ use Rattle.base.proofs.Pick.{pick-yes, pick-no}
 use Rattle.float.specs.Floats.{_⊕_, _⊖_}
 use Rattle.frame.specs.declared.Point.{Point}
 use Rattle.frame.specs.declared.Quad.{Quad}
-use Rattle.frame.proofs.Tests.{either}
+use Rattle.base.proofs.Tests.{either}
 use Rattle.candidates.specs.Ring.{centerAt}
 use Rattle.fiducials.specs.Answers.{keyOf, quadAt, placesAt, noQuad, noPlaces, cornersAs, cornersOf}
 use Rattle.fiducials.specs.Corners.{Corner, cornerOf, key, further, pickStep, pick, oneWay, tooSmall, quadOf, sharedPick, cornerNumber}
 use Rattle.fiducials.specs.Corners.Corner.{TL, TR, BR, BL}
 use Rattle.fiducials.specs.declared.Corners.{Corners}
 use Rattle.fiducials.specs.declared.Places.{Places}
-use Rattle.fiducials.proofs.Order.{lt-neg}
+use Rattle.float.proofs.Ordering.{lt-neg}
 use Rattle.fiducials.proofs.Picks.{pick-upto}
 
 -- ---- keys by number

@@ -1,13 +1,12 @@
 -- A detection, from a look and the corners. Assumes nothing.
-use Prim.Native.Nat.{ℕ, zero, suc, _*_, _/_, _≤_, _<_}
+use Prim.Native.Nat.{ℕ, _*_, _/_, _≤_, _<_}
 use mathlib.Core.Path.{_≡_, refl, sym, ap, subst, _∙_}
 use mathlib.Core.Bool.{false, not}
-use mathlib.Core.Logic.{⊎-elim}
-use native.Mathlib.Nat.{le-antisymm}
+use native.Mathlib.Nat.{pos-of-ne-zero}
 use native.Mathlib.Omega.{arith}
 use lib.Dec.{T, T-not}
 use lib.ListN.{length, getD}
-use Rattle.base.proofs.Plane.{le-or-lt}
+use Rattle.base.proofs.Enumerations.{rising-once}
 use Rattle.frame.specs.Image.{Image}
 use Rattle.frame.specs.Refusals.{lowestOf, Lowest, verdictOf}
 use Rattle.frame.specs.declared.FrameSpec.{FrameSpec}
@@ -54,7 +53,7 @@ same-corner BL TR f = absurd (f (λ q. let z : _≡_ {A = ℕ} 0 1 = cc in omega
 same-corner BL BR f = absurd (f (λ q. let z : _≡_ {A = ℕ} 0 1 = cc in omega arith))
 same-corner BL BL f = refl
 
-module _ (img : Image) (f : FrameSpec) (a b : Areas) (n k deep : ℕ) (R : Ready img f a) (L : Looked img f a b n k deep) where
+module _ (img : Image) (f : FrameSpec) (a b : Areas) (n k waited : ℕ) (R : Ready img f a) (L : Looked img f a b n k waited) where
   abbrev at : ℕ → Point
   at = centerAt (b .candidates)
 
@@ -76,10 +75,7 @@ module _ (img : Image) (f : FrameSpec) (a b : Areas) (n k deep : ℕ) (R : Ready
     below c = pick-below c at k four
 
     place-rises : (i j : ℕ) → i < k → j < k → place i ≡ place j → i ≡ j
-    place-rises i j x y e = ⊎-elim
-        (λ h. ⊎-elim (λ g. le-antisymm h g) (λ g. absurd (let v : place i < place j = L .candidates .ordered i j g y in omega arith)) (le-or-lt j i))
-        (λ h. absurd (let v : place j < place i = L .candidates .ordered j i h x in omega arith))
-        (le-or-lt i j)
+    place-rises = rising-once place k (L .candidates .ordered)
 
     place-of : (c : Corner) → placeOf (placesAt (b .«blob_index») (chosen TL) (chosen TR) (chosen BR) (chosen BL)) c ≡ place (chosen c)
     unfolding placeOf placesAt
@@ -115,7 +111,7 @@ module _ (img : Image) (f : FrameSpec) (a b : Areas) (n k deep : ℕ) (R : Ready
     quad-marked = subst (λ z. MarkedBy img f z) (sym (quad-of at k)) (marked-by img f (R .capture .w-most) (R .capture .h-most) (L .patches) (L .candidates) four)
 
   pub detecting : (r : Corners) → r ≡ cornersOf (b .candidates) (b .«blob_index») (img .w) (img .h) k
-      → DetectionPastTests img f a b (r .number) n k deep (r .places) (r .quad)
+      → DetectionPastTests img f a b (r .number) n k waited (r .places) (r .quad)
   unfolding cornersOf
   detecting r e =
       let N = cornerNumber (img .w) (img .h) at k in
@@ -142,10 +138,10 @@ module _ (img : Image) (f : FrameSpec) (a b : Areas) (n k deep : ℕ) (R : Ready
 
 -- ---- the room that `corners` asks
 
-pub candidates-room : (img : Image) (f : FrameSpec) (a b : Areas) (n k deep : ℕ) → Ready img f a → Looked img f a b n k deep
+pub candidates-room : (img : Image) (f : FrameSpec) (a b : Areas) (n k waited : ℕ) → Ready img f a → Looked img f a b n k waited
     → (4 * k ≤ length (b .candidates)) × (k ≤ length (b .«blob_index»))
 unfolding maskPlane
-candidates-room img f a b n k deep R L =
+candidates-room img f a b n k waited R L =
     let few : 32 * k ≤ length (maskPlane img f) = candidates-few (L .patches) (L .candidates) in
     let long : length (maskPlane img f) ≡ img .w * img .h = length-table _ (img .w * img .h) in
     let lc = L .candidates .c-long in
@@ -160,7 +156,7 @@ pub detection-refused : (img : Image) (f : FrameSpec) (a : Areas) (number : ℕ)
     → number ≡ lowestOf (lookTests img f a) → (number ≡ 0 → ⊥) → v ≡ verdictOf number → q ≡ noQuad → s ≡ noPlaces → Detection img f a a v 0 0 0 s q
 detection-refused img f a number v q s e ne ev eq es =
     let six : lowestOf (lookTests img f a) ≤ 6 = lowest-six img f (areaShort img a) false in
-    let one : 1 ≤ lowestOf (lookTests img f a) = positive (lowestOf (lookTests img f a)) (λ z. ne (e ∙ z)) in
+    let one : 1 ≤ lowestOf (lookTests img f a) = pos-of-ne-zero (λ z. ne (e ∙ z)) in
     record {
       number = number;
       given = ev;
@@ -172,14 +168,10 @@ detection-refused img f a number v q s e ne ev eq es =
       centers = λ x. absurd (ne x);
       none = λ x. (eq, es);
     }
-  where
-    positive : (n : ℕ) → (n ≡ 0 → ⊥) → 1 ≤ n
-    positive zero h = absurd (h refl)
-    positive (suc n) h = omega arith
 
-pub detection-found : (img : Image) (f : FrameSpec) (a b : Areas) (number : ℕ) (v : Verdict) (n k deep : ℕ) (s : Places) (q : Quad)
-    → lowestOf (lookTests img f a) ≡ 0 → DetectionPastTests img f a b number n k deep s q → v ≡ verdictOf number → Detection img f a b v n k deep s q
-detection-found img f a b number v n k deep s q e D ev =
+pub detection-found : (img : Image) (f : FrameSpec) (a b : Areas) (number : ℕ) (v : Verdict) (n k waited : ℕ) (s : Places) (q : Quad)
+    → lowestOf (lookTests img f a) ≡ 0 → DetectionPastTests img f a b number n k waited s q → v ≡ verdictOf number → Detection img f a b v n k waited s q
+detection-found img f a b number v n k waited s q e D ev =
     record {
       number = number;
       given = ev;

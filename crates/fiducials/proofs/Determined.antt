@@ -1,9 +1,11 @@
--- A detection's answer is decided by the capture and the frame: "no answer depends on prior work-area contents". Assumes nothing.
-use Prim.Native.Nat.{ℕ, zero, suc, _≤_}
-use mathlib.Core.Path.{_≡_, refl, sym, ap, subst, _∙_}
+-- A detection's answer is decided by the capture and the frame: [14.3] no answer depends on what the
+-- work areas held before. Assumes nothing.
+use Prim.Native.Nat.{ℕ, _≤_}
+use mathlib.Core.Path.{_≡_, sym, ap, subst, _∙_}
 use mathlib.Core.Bool.{false}
-use mathlib.Core.Logic.{_⊎_, inl, inr, ⊎-elim}
+use mathlib.Core.Logic.{⊎-elim}
 use mathlib.Core.List.{List}
+use native.Mathlib.Nat.{eq-zero-or-pos}
 use native.Mathlib.Omega.{arith}
 use Rattle.frame.specs.Image.{Image}
 use Rattle.frame.specs.Refusals.{Check, Lowest, verdictOf}
@@ -27,13 +29,9 @@ undetected-positive img f l r n (few e x) = omega arith
 undetected-positive img f l r n (shared e x) = omega arith
 undetected-positive img f l r n (crooked e q x y) = omega arith
 
-zero-or : (n : ℕ) → (n ≡ 0) ⊎ (1 ≤ n)
-zero-or zero = inl refl
-zero-or (suc n) = inr (omega arith)
-
 -- two calls with areas that pass or fail the same tests
-module _ (img : Image) (f : FrameSpec) (a b a′ b′ : Areas) (v v′ : Verdict) (n k deep n′ k′ deep′ : ℕ) (s s′ : Places) (q q′ : Quad)
-    (h : Detection img f a b v n k deep s q) (h′ : Detection img f a′ b′ v′ n′ k′ deep′ s′ q′) (e : lookTests img f a ≡ lookTests img f a′) where
+module _ (img : Image) (f : FrameSpec) (a b a′ b′ : Areas) (v v′ : Verdict) (n k waited n′ k′ waited′ : ℕ) (s s′ : Places) (q q′ : Quad)
+    (h : Detection img f a b v n k waited s q) (h′ : Detection img f a′ b′ v′ n′ k′ waited′ s′ q′) (e : lookTests img f a ≡ lookTests img f a′) where
   pub same-number : h .number ≡ h′ .number
   same-number =
       lowest-unique (Undetected img f (lookTests img f a)) (undetected-positive img f (lookTests img f a) (rising img f (areaShort img a) false)) (h .number) (h′ .number)
@@ -57,15 +55,15 @@ module _ (img : Image) (f : FrameSpec) (a b a′ b′ : Areas) (v v′ : Verdict
         ∙ sym (h′ .centers also)
 
   pub same-places : s ≡ s′
-  same-places = ⊎-elim found-places (λ o. h .none o .1 ∙ sym (h′ .none (subst (λ z. 1 ≤ z) same-number o) .1)) (zero-or (h .number))
+  same-places = ⊎-elim found-places (λ o. h .none o .1 ∙ sym (h′ .none (subst (λ z. 1 ≤ z) same-number o) .1)) (eq-zero-or-pos (h .number))
 
   pub same-quad : q ≡ q′
-  same-quad = ⊎-elim found-quad (λ o. h .none o .0 ∙ sym (h′ .none (subst (λ z. 1 ≤ z) same-number o) .0)) (zero-or (h .number))
+  same-quad = ⊎-elim found-quad (λ o. h .none o .0 ∙ sym (h′ .none (subst (λ z. 1 ≤ z) same-number o) .0)) (eq-zero-or-pos (h .number))
 
   -- .. and the numbers of patches, candidates and waiting pixels, where the picture is looked at
-  pub same-counts : Looked img f a b n k deep → Looked img f a′ b′ n′ k′ deep′ → (n ≡ n′) × (k ≡ k′) × (deep ≡ deep′)
+  pub same-counts : Looked img f a b n k waited → Looked img f a′ b′ n′ k′ waited′ → (n ≡ n′) × (k ≡ k′) × (waited ≡ waited′)
   same-counts l l′ = (
-    look.same-patches img f a b a′ b′ n k deep n′ k′ deep′ l l′,
-    look.same-candidates img f a b a′ b′ n k deep n′ k′ deep′ l l′,
-    look.same-waiting img f a b a′ b′ n k deep n′ k′ deep′ l l′,
+    look.same-patches img f a b a′ b′ n k waited n′ k′ waited′ l l′,
+    look.same-candidates img f a b a′ b′ n k waited n′ k′ waited′ l l′,
+    look.same-waited img f a b a′ b′ n k waited n′ k′ waited′ l l′,
   )

@@ -1,5 +1,4 @@
 -- Laws that the proofs of this crate, and of those above it, cite.
-pub mod Order
 pub mod Picks
 pub mod Keys
 pub mod Unique

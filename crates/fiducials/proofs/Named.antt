@@ -20,8 +20,8 @@ use Rattle.blobs.specs.Patches.{PatchOf, PatchList, patchAt}
 use Rattle.candidates.specs.Ring.{CandidateList, centerAt, candidateAt, candidateOf, passes, center}
 use Rattle.fiducials.specs.Corners.{Corner, Passing, Outermost, further, pick}
 use Rattle.fiducials.proofs.Picks.{Number, Best, pick-best, pick-below}
-use Rattle.base.proofs.Plane.{le-or-lt}
-use Rattle.candidates.proofs.Unique.{listed, patch-unique}
+use Rattle.base.proofs.Arith.{le-or-lt}
+use Rattle.blobs.proofs.Unique.{listed, patch-unique}
 
 module _ (img : Image) (f : FrameSpec) {l l′ : List ℕ} {n : ℕ} {firsts : List ℕ} {c c′ : List Float} {p p′ : List ℕ} {k : ℕ}
     (patches : PatchList (maskPlane img f) (img .w) l l′ n firsts)
@@ -52,7 +52,7 @@ module _ (img : Image) (f : FrameSpec) {l l′ : List ℕ} {n : ℕ} {firsts : L
           let i = candidates .every (j .0) (j .1) (subst (λ z. T (passes (maskPlane img f) (lumaPlane img) (img .w) (img .h) z)) (sym e) (h .ring)) in
           (i .0, i .1, ap (λ z. getD firsts z 0) (i .2) ∙ j .2, same-center (i .0) (i .1) ∙ ap (λ z. center (patchAt l′ z)) (i .2) ∙ ap center e)
 
-  -- "ties go to the earlier candidate", which is the earlier patch in raster order
+  -- [9.1] ties go to the earlier candidate, which is the earlier patch in raster order
   pub earlier : (i j : ℕ) → i ≤ j → j < k → getD firsts (place i) 0 ≤ getD firsts (place j) 0
   earlier i j h r = ⊎-elim
       (λ e. subst (λ z. getD firsts (place i) 0 ≤ getD firsts (place z) 0) e (omega arith))

@@ -1,10 +1,9 @@
 -- From what a call works out to the lowest number by meaning. Assumes nothing.
 use mathlib.Core.Path.{_≡_, refl, sym, subst, _∙_}
 use mathlib.Core.Bool.{Bool, true, false, not, cond, _||_}
-use mathlib.Core.Logic.{_⊎_, inl, inr, ⊎-elim}
+use mathlib.Core.Logic.{⊎-elim}
 use mathlib.Core.List.{List}
 use Prim.Native.Nat.{ℕ, _≤_, _<_}
-use native.Mathlib.Nat.{le-antisymm}
 use native.Mathlib.Omega.{arith}
 use lib.Dec.{T, ltb, eqb, ltb→lt, nltb→le, eqb→eq, T-not}
 use lib.Ieee.{Float}
@@ -24,27 +23,14 @@ use Rattle.frame.specs.Refusals.{Check, Tested, lowestOf, Lowest}
 use Rattle.fiducials.specs.Contracts.{Undetected, FourPass, Shared, MarkedBy}
 use Rattle.frame.specs.Refusals.Lowest.{accepted, refused}
 use Rattle.fiducials.specs.Contracts.Undetected.{tested, few, shared, crooked}
-use Rattle.base.proofs.Plane.{le-or-lt}
+use Rattle.base.proofs.Arith.{le-or-lt}
+use Rattle.base.proofs.Tests.{or-l, or-r, or-either}
+use Rattle.base.proofs.Enumerations.{rising-once}
 use Rattle.frame.proofs.Lowest.{Rising, lowest-of}
 use Rattle.fiducials.proofs.Unique.{outermost-unique, marked-unique}
 use Rattle.fiducials.proofs.Picks.{pick-below}
 use Rattle.fiducials.proofs.Named.{candidateCenter, place, same-center, candidate-passes, found, earlier}
 use Rattle.fiducials.proofs.Outer.{picks-outermost}
-
-lt-or : (i j : ℕ) → (i < j) ⊎ (j ≤ i)
-lt-or i j = ⊎-elim inr inl (le-or-lt j i)
-
-or-l : (a b : Bool) → T a → T (a || b)
-or-l true b t = tt
-or-l false b t = absurd t
-
-or-r : (a b : Bool) → T b → T (a || b)
-or-r true b t = tt
-or-r false b t = t
-
-or-cases : (a b : Bool) → T (a || b) → T a ⊎ T b
-or-cases true b t = inl tt
-or-cases false b t = inr t
 
 -- one of six
 in-1 : (a b c d e g : Bool) → T a → T (a || b || c || d || e || g)
@@ -117,7 +103,7 @@ module _ (img : Image) (f : FrameSpec) (w-held : img .w ≤ 4096) (h-held : img 
 
   -- the candidates of two patches stand as the patches do
   stand : (i j : ℕ) → i < k → first-at i < first-at j → i < j
-  stand i j h r = ⊎-elim (λ a. a) (λ a. absurd (let z : first-at j ≤ first-at i = earlier img f patches candidates j i a h in omega arith)) (lt-or i j)
+  stand i j h r = ⊎-elim (λ a. absurd (let z : first-at j ≤ first-at i = earlier img f patches candidates j i a h in omega arith)) (λ a. a) (le-or-lt j i)
 
   pub pass-four : FourPass img f → 4 ≤ k
   pass-four h =
@@ -155,10 +141,7 @@ module _ (img : Image) (f : FrameSpec) (w-held : img .w ≤ 4096) (h-held : img 
 
   -- ---- 8: two picks are one candidate exactly when one patch is outermost toward two corners
   same-candidate : (i j : ℕ) → i < k → j < k → first-at i ≡ first-at j → i ≡ j
-  same-candidate i j a b e = ⊎-elim
-      (λ x. absurd (let z : first-at i < first-at j = rises i j x b in omega arith))
-      (λ x. ⊎-elim (λ y. absurd (let z : first-at j < first-at i = rises j i y a in omega arith)) (λ y. le-antisymm y x) (lt-or j i))
-      (lt-or i j)
+  same-candidate = rising-once first-at k rises
 
   pub one-patch : 0 < k → (s : Shared img f) → chosen (s .c) ≡ chosen (s .d)
   one-patch h s =
@@ -236,15 +219,16 @@ module _ (img : Image) (f : FrameSpec) (w-held : img .w ≤ 4096) (h-held : img 
       (λ d. ⊎-elim
       (λ e. of TL TR (λ q. let z : _≡_ {A = ℕ} 0 1 = cc in omega arith) e)
       (λ e. of TL BR (λ q. let z : _≡_ {A = ℕ} 0 1 = cc in omega arith) e)
-      (or-cases (eqb (chosen TL) (chosen TR)) (eqb (chosen TL) (chosen BR)) d))
+      (or-either (eqb (chosen TL) (chosen TR)) (eqb (chosen TL) (chosen BR)) d))
       (λ d. of TL BL (λ q. let z : _≡_ {A = ℕ} 0 1 = cc in omega arith) d)
-      (or-cases (eqb (chosen TL) (chosen TR) || eqb (chosen TL) (chosen BR)) (eqb (chosen TL) (chosen BL)) c))
+      (or-either (eqb (chosen TL) (chosen TR) || eqb (chosen TL) (chosen BR)) (eqb (chosen TL) (chosen BL)) c))
       (λ c. of TR BR (λ q. let z : _≡_ {A = ℕ} 0 1 = cc in omega arith) c)
-      (or-cases (eqb (chosen TL) (chosen TR) || eqb (chosen TL) (chosen BR) || eqb (chosen TL) (chosen BL)) (eqb (chosen TR) (chosen BR)) b))
+      (or-either (eqb (chosen TL) (chosen TR) || eqb (chosen TL) (chosen BR) || eqb (chosen TL) (chosen BL)) (eqb (chosen TR) (chosen BR)) b))
       (λ b. of TR BL (λ q. let z : _≡_ {A = ℕ} 0 1 = cc in omega arith) b)
-      (or-cases (eqb (chosen TL) (chosen TR) || eqb (chosen TL) (chosen BR) || eqb (chosen TL) (chosen BL) || eqb (chosen TR) (chosen BR)) (eqb (chosen TR) (chosen BL)) a))
+      (or-either (eqb (chosen TL) (chosen TR) || eqb (chosen TL) (chosen BR) || eqb (chosen TL) (chosen BL) || eqb (chosen TR) (chosen BR))
+      (eqb (chosen TR) (chosen BL)) a))
       (λ a. of BR BL (λ q. let z : _≡_ {A = ℕ} 0 1 = cc in omega arith) a)
-      (or-cases (eqb (chosen TL) (chosen TR) || eqb (chosen TL) (chosen BR) || eqb (chosen TL) (chosen BL) || eqb (chosen TR) (chosen BR) ||
+      (or-either (eqb (chosen TL) (chosen TR) || eqb (chosen TL) (chosen BR) || eqb (chosen TL) (chosen BL) || eqb (chosen TR) (chosen BR) ||
       eqb (chosen TR) (chosen BL)) (eqb (chosen BR) (chosen BL)) t)
     where
       of : (d e : Corner) → (d ≡ e → ⊥) → T (eqb (chosen d) (chosen e)) → Shared img f

@@ -1,17 +1,17 @@
 -- `pick` names the candidate that lies furthest out, and the first of equals. Assumes nothing.
 use mathlib.Core.Path.{_≡_, refl, sym, subst}
 use mathlib.Core.Bool.{Bool, true, false, not, cond}
-use mathlib.Core.Logic.{_⊎_, ⊎-elim}
+use mathlib.Core.Logic.{⊎-elim}
 use Prim.Native.Nat.{ℕ, zero, suc, _≤_, _<_}
-use native.Mathlib.Nat.{eq-or-lt-of-le, le-of-suc-le-suc}
 use native.Mathlib.Omega.{arith}
 use lib.Dec.{T, T-not, not-T}
 use lib.Ieee.{isNan}
 use Rattle.frame.specs.declared.Point.{Point}
 use Rattle.base.specs.Loops.{turns}
+use Rattle.base.proofs.Arith.{last-or}
 use Rattle.fiducials.specs.Corners.{Corner, key, further, pickStep, pick}
 use Rattle.fiducials.specs.Corners.Corner.{TL, TR, BR, BL}
-use Rattle.fiducials.proofs.Order.{lt-step, step-lt, lt-trans, lt-irrefl}
+use Rattle.float.proofs.Ordering.{lt-step, step-lt, lt-trans, lt-irrefl}
 
 -- `further` is a strict weak order on centres whose keys are numbers
 abbrev pub Number : Corner → Point → Type 0
@@ -52,9 +52,6 @@ pick-upto c p (suc n) = up n (further c (p n) (p (turns n (pickStep c p) 0))) (t
 pub record Best (c : Corner) (p : ℕ → Point) (n b : ℕ) : Type 0 where
   pub none-further : (i : ℕ) → i < n → T (not (further c (p i) (p b)))
   pub first : (i : ℕ) → i < b → T (further c (p b) (p i))
-
-last-or : (i n : ℕ) → i < suc n → (i ≡ n) ⊎ (i < n)
-last-or i n h = eq-or-lt-of-le (le-of-suc-le-suc h)
 
 module _ (c : Corner) (p : ℕ → Point) (N : ℕ) (number : (i : ℕ) → i < N → Number c (p i)) where
   one-more : (n b : ℕ) → n < N → Best c p n b → Best c p (suc n) (pickStep c p n b)

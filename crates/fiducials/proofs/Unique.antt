@@ -1,20 +1,18 @@
 -- The picture decides the corners: their patches, centres and places. Assumes nothing.
-use Prim.Native.Nat.{ℕ, _<_}
+use Prim.Native.Nat.{ℕ}
 use mathlib.Core.Path.{_≡_, refl, sym, ap, subst, _∙_}
-use mathlib.Core.Logic.{⊎-elim}
 use mathlib.Core.List.{List}
 use native.Mathlib.Nat.{le-antisymm}
-use native.Mathlib.Omega.{arith}
 use lib.ListN.{getD}
-use Rattle.base.proofs.Plane.{le-or-lt}
+use Rattle.base.proofs.Enumerations.{rising-once}
 use Rattle.frame.specs.Image.{Image}
 use Rattle.frame.specs.declared.FrameSpec.{FrameSpec}
 use Rattle.frame.specs.declared.Quad.{Quad}
 use Rattle.mask.specs.Mask.{maskPlane}
 use Rattle.blobs.specs.Patches.{PatchOf, PatchList, patchAt}
 use Rattle.blobs.specs.declared.Blob.{Blob}
+use Rattle.blobs.proofs.Unique.{patch-unique, list-firsts}
 use Rattle.candidates.specs.Ring.{center}
-use Rattle.candidates.proofs.Unique.{patch-unique, list-firsts}
 use Rattle.fiducials.specs.Corners.{Corner, Outermost}
 use Rattle.fiducials.specs.Corners.Corner.{TL, TR, BR, BL}
 use Rattle.fiducials.specs.Contracts.{MarkedBy, Cornered, placeOf, centersAt}
@@ -50,11 +48,7 @@ module _ (img : Image) (f : FrameSpec) {k k′ l l′ : List ℕ} {n o : ℕ} {F
       let j = placeOf r e in
       let x : getD F i 0 ≡ getD G j 0 = outermost-unique img f e _ _ _ _ (c .outermost e) (d .outermost e) in
       let y = list-firsts (maskPlane img f) (img .w) a b i (c .listed e) in
-      let z : getD F i 0 ≡ getD G i 0 = y .1 in
-      ⊎-elim
-      (λ h. ⊎-elim (λ g. le-antisymm h g) (λ g. absurd (let v : getD G i 0 < getD G j 0 = b .ordered i j g (d .listed e) in omega arith)) (le-or-lt j i))
-      (λ h. absurd (let v : getD G j 0 < getD G i 0 = b .ordered j i h (y .0) in omega arith))
-      (le-or-lt i j)
+      rising-once (λ q. getD G q 0) o (b .ordered) i j (y .0) (d .listed e) (sym (y .1) ∙ x)
 
   pub places-unique : s ≡ r
   unfolding placeOf

@@ -62,11 +62,11 @@ pub record MarkedBy (img : Image) (f : FrameSpec) (q : Quad) : Type 0 where
 -- those of `detect_fiducials`: tests, and 7 to 9
 pub data Undetected (img : Image) (f : FrameSpec) (tests : List Check) (n : ℕ) : Type 0 where
   tested : Tested n tests → Undetected img f tests n
-  -- "7: fewer than four candidates": no four different patches pass the ring rule
+  -- [2.7] 7: fewer than four candidates, that is, no four different patches pass the ring rule
   few : n ≡ 7 → (FourPass img f → ⊥) → Undetected img f tests n
-  -- "8: one candidate fills two corners"
+  -- [2.8] 8: one candidate fills two corners
   shared : n ≡ 8 → Shared img f → Undetected img f tests n
-  -- "9: the corners do not turn one way, or the area is too small"
+  -- [2.9] 9: the corners do not turn one way, or their area is too small
   crooked : n ≡ 9 → (q : Quad) → MarkedBy img f q → T (not (oneWay q) || tooSmall (img .w) (img .h) q)
       → Undetected img f tests n
 
@@ -77,7 +77,7 @@ placeOf s TR = s .tr
 placeOf s BR = s .br
 placeOf s BL = s .bl
 
--- "those four patches' centres"
+-- [0.5] those four patches' centres
 unfoldable pub centersAt : List ℕ → Places → Quad
 centersAt l s =
     record {
@@ -89,17 +89,17 @@ centersAt l s =
 
 -- ---- the corners that are named: of n patches with the first pixels firsts and the records l
 pub record Cornered (img : Image) (f : FrameSpec) (l firsts : List ℕ) (n : ℕ) (s : Places) : Type 0 where
-  -- "names four different patches, one for each corner"
+  -- [0.4] four different patches, one for each corner
   pub listed : (c : Corner) → placeOf s c < n
   pub different : (c d : Corner) → placeOf s c ≡ placeOf s d → c ≡ d
-  -- "each all the dark pixels joined edge to edge, each passing the ring rule. No other passing patch lies further
-  -- out toward that corner, and of equals the first in raster order is named."
+  -- [0.4] each all the dark pixels joined edge to edge, each passing the ring rule; no other passing patch lies
+  -- further out toward that corner, and of equals the first in raster order is named
   pub outermost : (c : Corner) → Outermost img f c (getD firsts (placeOf s c) 0) (patchAt l (placeOf s c))
 
 -- ---- what a detection leaves, where no test refuses it
-pub record DetectionPastTests (img : Image) (f : FrameSpec) (a b : Areas) (number n k deep : ℕ) (s : Places)
+pub record DetectionPastTests (img : Image) (f : FrameSpec) (a b : Areas) (number n k waited : ℕ) (s : Places)
     (q : Quad) : Type 0 where
-  pub looked : Looked img f a b n k deep
+  pub looked : Looked img f a b n k waited
   -- 7 to 9, or 0: the lowest number that applies, after any tests of which none holds
   pub lowest : (tests : List Check) → ((j : ℕ) → Tested j tests → ⊥) → Lowest (Undetected img f tests) number
   pub from-seven : 1 ≤ number → 7 ≤ number
@@ -110,15 +110,15 @@ pub record DetectionPastTests (img : Image) (f : FrameSpec) (a b : Areas) (numbe
   pub none : 1 ≤ number → (q ≡ noQuad) × (s ≡ noPlaces)
 
 -- ---- `detect_fiducials`: the centres q of the four patches at the places s
-pub record Detection (img : Image) (f : FrameSpec) (a b : Areas) (v : Verdict) (n k deep : ℕ) (s : Places)
+pub record Detection (img : Image) (f : FrameSpec) (a b : Areas) (v : Verdict) (n k waited : ℕ) (s : Places)
     (q : Quad) : Type 0 where
   pub number : ℕ
   pub given : v ≡ verdictOf number
   pub refusal : Lowest (Undetected img f (lookTests img f a)) number
-  -- "1 to 6 touch no memory"
-  pub untouched : 1 ≤ number → number ≤ 6 → (b ≡ a) × (n ≡ 0) × (k ≡ 0) × (deep ≡ 0)
-  pub refused : 7 ≤ number → Looked img f a b n k deep
-  pub accepted : number ≡ 0 → Looked img f a b n k deep
+  -- [2.17] 1 to 6 touch no memory
+  pub untouched : 1 ≤ number → number ≤ 6 → (b ≡ a) × (n ≡ 0) × (k ≡ 0) × (waited ≡ 0)
+  pub refused : 7 ≤ number → Looked img f a b n k waited
+  pub accepted : number ≡ 0 → Looked img f a b n k waited
   pub corners : (e : number ≡ 0) → Cornered img f (b .patches) (accepted e .firsts) n s
   pub centers : number ≡ 0 → q ≡ centersAt (b .patches) s
   pub none : 1 ≤ number → (q ≡ noQuad) × (s ≡ noPlaces)

@@ -1,4 +1,4 @@
--- Corners (document 01, "Corners"). Assumes nothing.
+-- Corners (requirements, 9). Assumes nothing.
 use Prim.Native.Nat.{ℕ, zero, suc, _*_, _≤_}
 use mathlib.Core.Bool.{Bool, cond, not, _&&_, _||_}
 use lib.Dec.{T, eqb, ltb}
@@ -25,22 +25,22 @@ cornerOf (suc zero) = TR
 cornerOf (suc (suc zero)) = BR
 cornerOf (suc (suc (suc n))) = BL
 
--- "TL least x+y, TR greatest x−y, BR greatest x+y, BL least x−y, as the f64 keys"
+-- [9.1] TL has the least x+y, TR the greatest x−y, BR the greatest x+y, BL the least x−y, as f64 keys
 unfoldable pub key : Corner → Point → Float
 key TL p = p .x ⊕ p .y
 key TR p = p .x ⊖ p .y
 key BR p = p .x ⊕ p .y
 key BL p = p .x ⊖ p .y
 
--- "One patch lies further out than another toward TL or BL when its key there is less, toward TR or BR when it is
--- greater"
+-- [9.2] one patch lies further out than another toward TL or BL when its key there is less, toward TR or BR when it is
+-- greater
 unfoldable pub further : Corner → Point → Point → Bool
 further TL p q = lt (key TL p) (key TL q)
 further TR p q = lt (key TR q) (key TR p)
 further BR p q = lt (key BR q) (key BR p)
 further BL p q = lt (key BL p) (key BL q)
 
--- `pick`, over n candidates with the centres p 0, p 1, ..: "ties go to the earlier candidate"
+-- [9.1] `pick`, over n candidates with the centres p 0, p 1, ..: ties go to the earlier candidate
 abbrev pub pickStep : Corner → (ℕ → Point) → ℕ → ℕ → ℕ
 pickStep c p i best = cond (further c (p i) (p best)) i best
 
@@ -53,8 +53,8 @@ pub record Passing (img : Image) (f : FrameSpec) (p : ℕ) (t : Blob) : Type 0 w
   pub is : PatchOf (maskPlane img f) (img .w) p t
   pub ring : T (passes (maskPlane img f) (lumaPlane img) (img .w) (img .h) t)
 
--- the patch named for a corner: it passes the ring rule, and "No other passing patch lies further out toward that
--- corner, and of equals the first in raster order is named". Two are equals when neither lies further out
+-- [0.4] the patch named for a corner: it passes the ring rule, no other passing patch lies further out toward that
+-- corner, and of equals the first in raster order is named. Two are equals when neither lies further out
 pub record Outermost (img : Image) (f : FrameSpec) (c : Corner) (p : ℕ) (t : Blob) : Type 0 where
   pub passing : Passing img f p t
   pub none-further : (q : ℕ) (u : Blob) → Passing img f q u → T (not (further c (center u) (center t)))
@@ -67,7 +67,7 @@ cross a b c = (b .x ⊖ a .x) ⊗ (c .y ⊖ a .y) ⊖ (b .y ⊖ a .y) ⊗ (c .x 
 abbrev pub orientation : Point → Point → Point → Float
 orientation a b c = signumOf (cross a b c)
 
--- "Four `cross` signs must agree"
+-- [9.3] the four `cross` signs must agree
 unfoldable pub oneWay : Quad → Bool
 oneWay q =
     let s = orientation (q .tl) (q .tr) (q .br) in
@@ -83,7 +83,7 @@ quadArea q =
     d64 5 10 ⊗ absOf (f64 0 ⊕ term (q .tl) (q .tr) ⊕ term (q .tr) (q .br) ⊕ term (q .br) (q .bl) ⊕ term (q .bl)
     (q .tl))
 
--- "Area below 0.04·w·h is refused"
+-- [9.4] an area below 0.04·w·h is refused
 unfoldable pub tooSmall : ℕ → ℕ → Quad → Bool
 tooSmall w h q = lt (quadArea q) (d64 4 100 ⊗ f64 (w * h))
 

@@ -1,4 +1,5 @@
-// The functions behind `detect_fiducials`, for the crates above.
+// The corners among the candidates, and the whole detection behind `detect_fiducials`, for the
+// crates above.
 ghost use mathlib.Core.Path.{_≡_};
 ghost use mathlib.Core.Bool.{_||_};
 ghost use Prim.Native.Nat.{_+_, _*_, _≤_, _<_};
@@ -9,109 +10,20 @@ ghost use Rattle.frame.specs.Refusals.{verdictOf};
 ghost use Rattle.candidates.specs.Areas.{areas};
 ghost use Rattle.candidates.specs.Bounds.{Ready};
 ghost use Rattle.candidates.specs.Ring.{centerAt};
-ghost use Rattle.fiducials.specs.Corners.{cornerOf, pickStep, pick, cross, orientation, oneWay};
-ghost use Rattle.fiducials.specs.Corners.{quadArea, tooSmall};
-ghost use Rattle.fiducials.specs.Answers.{keyOf, quadAt, placesAt, noQuad, noPlaces, cornersOf};
+ghost use Rattle.fiducials.specs.Answers.{quadAt, placesAt, noQuad, noPlaces, cornersOf};
 ghost use Rattle.fiducials.specs.Contracts.{DetectionPastTests};
 use super::Corners;
 use super::Found;
 use super::Places;
-use candidates::internal::center_at;
+use super::pick::pick;
+use super::quadrilateral::one_way;
+use super::quadrilateral::too_small;
 use candidates::internal::look;
-use float::abs;
-use float::signum;
+use candidates::list::center_at;
 use frame::FrameSpec;
 use frame::Point;
 use frame::Quad;
 use frame::Verdict;
-
-// ---- pick
-
-// The key to be least: 0 for TL, 1 for TR, 2 for BR, 3 for BL.
-fn key(corner: u32, p: Point) -> f64
-    ensures { λ r. ⌜ r ≡ keyOf corner p ⌝ }
-{
-    match corner {
-        0 => p.x + p.y,
-        1 => -(p.x - p.y),
-        2 => -(p.x + p.y),
-        _ => p.x - p.y,
-    }
-}
-
-// Candidate i where it lies further out than `best`, and else `best`.
-fn further(candidates: &[f64], corner: u32, i: usize, best: usize) -> usize
-    requires { ⌜ (4 * i + 1 < length (now candidates)) × (4 * best + 1 < length (now candidates)) ⌝ }
-    ensures { λ r. ⌜ r ≡ pickStep (cornerOf corner) (centerAt (now (candidates .entry))) i best ⌝ }
-{
-    let a = key(corner, center_at(candidates, i));
-    let b = key(corner, center_at(candidates, best));
-    if a < b { i } else { best }
-}
-
-// The candidate that lies furthest out toward a corner, and the first of equals.
-fn pick(candidates: &[f64], k: usize, corner: u32) -> usize
-    requires { ⌜ 4 * k ≤ length (now candidates) ⌝ }
-    ensures { λ r. ⌜ r ≡ pick (cornerOf corner) (centerAt (now (candidates .entry))) k ⌝ }
-{
-    let mut best: usize = 0;
-    let mut i: usize = 0;
-    while i < k {
-        best = further(candidates, corner, i, best);
-        i += 1;
-    }
-    best
-}
-
-// ---- the quadrilateral
-
-fn cross(a: Point, b: Point, c: Point) -> f64
-    ensures { λ r. ⌜ r ≡ cross a b c ⌝ }
-{
-    (b.x - a.x) * (c.y - a.y) - (b.y - a.y) * (c.x - a.x)
-}
-
-fn orientation(a: Point, b: Point, c: Point) -> f64
-    ensures { λ r. ⌜ r ≡ orientation a b c ⌝ }
-{
-    signum(cross(a, b, c))
-}
-
-// The four signs agree.
-pub fn one_way(q: Quad) -> bool
-    ensures { λ r. ⌜ r ≡ oneWay q ⌝ }
-{
-    let tl = q.tl;
-    let tr = q.tr;
-    let br = q.br;
-    let bl = q.bl;
-    let s = orientation(tl, tr, br);
-    (s == s)
-        & (orientation(tr, br, bl) == s)
-        & (orientation(br, bl, tl) == s)
-        & (orientation(bl, tl, tr) == s)
-}
-
-fn area(q: Quad) -> f64
-    ensures { λ r. ⌜ r ≡ quadArea q ⌝ }
-{
-    let a = q.tl;
-    let b = q.tr;
-    let c = q.br;
-    let d = q.bl;
-    let ab = a.x * b.y - b.x * a.y;
-    let bc = b.x * c.y - c.x * b.y;
-    let cd = c.x * d.y - d.x * c.y;
-    let da = d.x * a.y - a.x * d.y;
-    0.5 * abs(0.0 + ab + bc + cd + da)
-}
-
-pub fn too_small(w: usize, h: usize, q: Quad) -> bool
-    requires { ⌜ (w ≤ 4096) × (h ≤ 4096) ⌝ }
-    ensures { λ r. ⌜ r ≡ tooSmall w h q ⌝ }
-{
-    area(q) < 0.04 * (w * h) as f64
-}
 
 // ---- the corners among k candidates
 
@@ -244,7 +156,7 @@ pub fn detect(
         (now (waiting .entry)) (now (patches .entry)) (now (candidates .entry)) (now («blob_index» .entry)))
         (areas (now (luma .exit)) (now (integral .exit)) (now (mask .exit)) (now (seen .exit)) (now (waiting .exit))
         (now (patches .exit)) (now (candidates .exit)) (now («blob_index» .exit)))
-        (r .number) (r .patches) (r .candidates) (r .waiting) (r .places) (r .quad) ⌝ }
+        (r .number) (r .patches) (r .candidates) (r .waited) (r .places) (r .quad) ⌝ }
 {
     let c = look(
         capture,
@@ -270,7 +182,7 @@ pub fn detect(
         places: places,
         patches: c.patches,
         candidates: k,
-        waiting: c.waiting,
+        waited: c.waited,
     }
 }
 

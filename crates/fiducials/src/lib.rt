@@ -1,6 +1,6 @@
 // The four corners.
 use candidates::Lengths;
-use candidates::internal::refused;
+use candidates::tests::refused;
 use frame::FrameSpec;
 use frame::Quad;
 use frame::Verdict;
@@ -13,6 +13,8 @@ ghost use Rattle.candidates.specs.Areas.{areas};
 ghost use Rattle.fiducials.specs.Contracts.{Detection};
 
 pub mod internal;
+mod pick;
+pub mod quadrilateral;
 
 // Places in the patch list.
 pub struct Places {
@@ -36,7 +38,7 @@ pub struct Found {
     pub places: Places,
     pub patches: usize,
     pub candidates: usize,
-    pub waiting: usize,
+    pub waited: usize,
 }
 
 // The answer of `detect_fiducials`: centres and places are 0 where it is refused, and the three
@@ -47,7 +49,7 @@ pub struct Detected {
     pub places: Places,
     pub patches: usize,
     pub candidates: usize,
-    pub waiting: usize,
+    pub waited: usize,
 }
 
 // Locates the four fiducials, in the order TL, TR, BR, BL.
@@ -70,7 +72,7 @@ pub fn detect_fiducials(
         (now (waiting .entry)) (now (patches .entry)) (now (candidates .entry)) (now («blob_index» .entry)))
         (areas (now (luma .exit)) (now (integral .exit)) (now (mask .exit)) (now (seen .exit)) (now (waiting .exit))
         (now (patches .exit)) (now (candidates .exit)) (now («blob_index» .exit)))
-        (r .verdict) (r .patches) (r .candidates) (r .waiting) (r .places) (r .quad) ⌝ }
+        (r .verdict) (r .patches) (r .candidates) (r .waited) (r .places) (r .quad) ⌝ }
 {
     let lengths = Lengths {
         luma: luma.len(),
@@ -93,7 +95,7 @@ pub fn detect_fiducials(
             places: places,
             patches: 0,
             candidates: 0,
-            waiting: 0,
+            waited: 0,
         };
     }
     let f = detect(
@@ -119,6 +121,6 @@ pub fn detect_fiducials(
         places: places,
         patches: f.patches,
         candidates: f.candidates,
-        waiting: f.waiting,
+        waited: f.waited,
     }
 }

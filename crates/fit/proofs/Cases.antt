@@ -2,7 +2,7 @@
 use mathlib.Core.Path.{_≡_, refl, sym, ap, _∙_}
 use mathlib.Core.Bool.{Bool, true, false, cond, not}
 use mathlib.Core.List.{List, [], _∷_}
-use Prim.Native.Nat.{ℕ, zero, suc}
+use Prim.Native.Nat.{ℕ, suc}
 use native.Mathlib.Omega.{arith}
 use lib.Ieee.{Float}
 use Rattle.frame.specs.Refusals.{Check, check, lowestOf}
@@ -19,12 +19,6 @@ use Rattle.fit.specs.declared.Grade.{Grade}
 use Rattle.fit.specs.declared.GridScore.the-variants as S
 use Rattle.fit.specs.Fits.{undistorted, fitsFor, fitFor, unfitted, fittedFor}
 use Rattle.fit.specs.Contracts.{fittedAs, fittedBy, scoredAs}
-
--- what is the same for every number from two on
-pub from-two : {A : Type 0} (f : ℕ → A) (v : A) → ((m : ℕ) → f (suc (suc m)) ≡ v) → (n : ℕ) → (n ≡ 0 → ⊥) → (n ≡ 1 → ⊥) → v ≡ f n
-from-two f v h zero a b = absurd (a refl)
-from-two f v h (suc zero) a b = absurd (b refl)
-from-two f v h (suc (suc m)) a b = sym (h m)
 
 -- ---- a fit for a lens term
 module _ (w h : ℕ) (f : FrameSpec) (q : Quad) (k : Float) (s : Solved) (e : s ≡ fromPoints (markerCenters f) (undistorted (radial w h k) q)) where

@@ -1,4 +1,3 @@
 -- Laws of the definitions.
 pub mod Cases
 mod Walks
-pub mod Lent

@@ -125,9 +125,6 @@ pub sum-put : (v : ℕ → Float) (j m : ℕ) (x : Float) {s : Float} → s ≡ 
 unfolding sumOf
 sum-put v j m x {s} e q r = ap (λ z. s ⊕ z) q ∙ turns-end _ _ _ _ (turns-step (addAt v) _ j e) r
 
-pub false-true : false ≡ true → ⊥
-false-true e = let z : _≡_ {A = ℕ} 0 1 = cc in omega arith
-
 -- a frame's columns and rows
 whole-part : (a b n : ℕ) → a ≤ n → 1 ≤ b → a / b ≤ n
 whole-part a b n h r = le-trans (div-le-self a b) h

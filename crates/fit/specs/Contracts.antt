@@ -27,7 +27,7 @@ sampledCells f = down f * across f
 unfoldable pub meansShort : FrameSpec → List Float → Bool
 meansShort f means = ltb (length means) (sampledCells f)
 
--- `fit_for`: "not 6"; of the capture it is handed w and h
+-- [2.14] `fit_for` does not give 6; [2.13] of the capture it is handed w and h
 unfoldable pub fitForTests : ℕ → ℕ → FrameSpec → Quad → Float → List Check
 fitForTests w h f q k =
     check 1 (frameOutside f) ∷ check 2 (sidesWrong w h) ∷ check 5 (noLayout f) ∷ check 10 (not (fitsFor w h f q k)) ∷ []
@@ -40,12 +40,12 @@ fittedAs (suc n) t = unfitted (suc n)
 unfoldable pub fittedBy : List Check → GeometryFit → Fitted
 fittedBy tests t = fittedAs (lowestOf tests) t
 
--- `grid_score`: "neither" 5 nor 6
+-- [2.14] `grid_score` gives neither 5 nor 6
 unfoldable pub gridTests : Image → FrameSpec → List Float → List Check
 gridTests img f means = check 1 (frameOutside f) ∷ check 2 (captureWrong img) ∷ check 3 (meansShort f means) ∷ []
 
--- ---- `grid_score`: the lowest number that applies, or the grade; "Free: .. cell means after a call not refused by 1 to 6", but past the sampled cells
--- they are unchanged
+-- ---- `grid_score`: [2.12] the lowest number that applies, or the grade. [14.2] The cell means are free after a call
+-- not refused by 1 to 6; [3.2] past the sampled cells they stay as they were
 unfoldable pub scoreNumber : GridScore → ℕ
 scoreNumber (Is g) = 0
 scoreNumber (G.Refused n) = n

@@ -1,4 +1,4 @@
--- The fit for a lens term (document 01, "Lens search and warp": a trial's k, lens and homography). Assumes nothing.
+-- The fit for a lens term (requirements, 12.2: a trial's k, lens and homography). Assumes nothing.
 use Prim.Native.Nat.{ℕ}
 use mathlib.Core.Bool.{Bool, cond}
 use lib.Ieee.{Float}
@@ -21,8 +21,8 @@ undistorted l q = record {
   bl = undistort l (q .bl);
 }
 
--- `fit_for`: "a Radial with the capture's centre and norm", and "the homography that this gives from the marker
--- centres to the four centres undistorted"
+-- [12.2] `fit_for`: a Radial with the capture's centre and norm, and the homography that this gives from the marker
+-- centres to the four centres undistorted
 unfoldable pub fitsFor : ℕ → ℕ → FrameSpec → Quad → Float → Bool
 fitsFor w h f q k = hasHomography (markerCenters f) (undistorted (radial w h k) q)
 

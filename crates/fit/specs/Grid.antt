@@ -1,4 +1,4 @@
--- The grid score (document 01, "Grid score"). Assumes nothing.
+-- The grid score (requirements, 11). Assumes nothing.
 use Prim.Native.Nat.{ℕ, zero, suc, _+_, _*_, _/_, _%_}
 use mathlib.Core.Bool.{Bool, cond, true}
 use lib.Dec.{ltb}
@@ -19,18 +19,18 @@ use Rattle.fit.specs.declared.GeometryFit.{GeometryFit}
 use Rattle.fit.specs.declared.Grade.{Grade}
 use Rattle.fit.specs.declared.Grade.the-variants.{Score, Outside, TooFew}
 
--- where a fit puts a canonical point: "the fit's matrix (`apply`) and then its lens (`distort`)"
+-- [12.7] where a fit puts a canonical point: its matrix (`apply`) and then its lens (`distort`)
 unfoldable pub placed : GeometryFit → Point → Point
 placed fit p = distort (fit .radial) (apply (fit .h) p)
 
--- "Every third row and column of cells"
+-- [11.1] every third row and column of cells
 unfoldable pub across : FrameSpec → ℕ
 across f = (cols f + 2) / 3
 
 unfoldable pub down : FrameSpec → ℕ
 down f = (rows f + 2) / 3
 
--- "nine taps": tap i of the cell in column c and row r is in column i % 3 and row i / 3 of 0.3, 0.5, 0.7
+-- [11.1] nine taps: tap i of the cell in column c and row r is in column i % 3 and row i / 3 of 0.3, 0.5, 0.7
 unfoldable pub tapShare : ℕ → Float
 tapShare zero = d64 3 10
 tapShare (suc zero) = d64 5 10
@@ -43,7 +43,7 @@ tapPlace f fit c r i =
       y = f64 (cellY f r) ⊕ tapShare (i / 3) ⊗ f64 (f .cell);
     })
 
--- "A tap is outside when x < 0, y < 0, x ≥ w or y ≥ h; a NaN coordinate compares false"
+-- [11.4] a tap is outside when x < 0, y < 0, x ≥ w or y ≥ h; a NaN coordinate compares false
 unfoldable pub tapOutside : Image → FrameSpec → GeometryFit → ℕ → ℕ → ℕ → Bool
 tapOutside img f fit c r i = outside (img .w) (img .h) (tapPlace f fit c r i .x) (tapPlace f fit c r i .y)
 
@@ -85,7 +85,7 @@ unfoldable pub fisher : Image → FrameSpec → GeometryFit → ℕ → Float
 fisher img f fit n =
     fisherOf (byRow (across f) (cellMean img f fit)) (sumOf (byRow (across f) (cellVariance img f fit)) n) n
 
--- "The first tap outside the picture ends the tap, column and row walks together"
+-- [11.2] the first tap outside the picture ends the tap, column and row walks together
 pub data Walk : Type 0 where
   Going : Walk
   Ended : ℕ → Walk
@@ -94,7 +94,7 @@ abbrev pub onGoing : Walk → Walk → Walk
 onGoing next Going = next
 onGoing next (Ended cell) = Ended cell
 
--- "the number row·cols + column"
+-- [11.3] the number row·cols + column
 abbrev pub tapStep : Image → FrameSpec → GeometryFit → ℕ → ℕ → ℕ → Walk → Walk
 tapStep img f fit y x i s =
     onGoing (cond (tapOutside img f fit (3 * x) (3 * y) i) (Ended (3 * y * cols f + 3 * x)) Going) s
@@ -108,8 +108,8 @@ rowStep img f fit y s = turns (across f) (cellStep img f fit y) s
 unfoldable pub walked : Image → FrameSpec → GeometryFit → Walk
 walked img f fit = turns (down f) (rowStep img f fit) Going
 
--- "The grade is a score with its float, too few cells (under 16), or outside with a cell"; "Outside goes before too
--- few."
+-- [11.3] the grade is a score with its float, too few cells (under 16), or outside with a cell; [11.5] outside goes
+-- before too few
 abbrev pub gradeFrom : Walk → Grade → Grade
 gradeFrom (Ended cell) g = Outside cell
 gradeFrom Going g = g
@@ -119,7 +119,7 @@ gradeOf img f fit =
     let n = down f * across f in
     gradeFrom (walked img f fit) (cond (ltb n 16) TooFew (Score (fisher img f fit n)))
 
--- "Rust's −∞ stands for the last two"
+-- [11.5] the Rust's −∞ stands for outside and too few
 unfoldable pub scoreOf : Grade → Float
 scoreOf (Score s) = s
 scoreOf (Outside cell) = inf true

@@ -14,7 +14,7 @@ ghost use Prim.Native.Nat.{_+_, _*_, _≤_, _<_};
 ghost use lib.ListN.{length};
 ghost use Rattle.frame.specs.Image.{image};
 ghost use Rattle.frame.specs.Limits.{FrameHeld, SidesHeld, CaptureHeld};
-ghost use Rattle.fit.specs.Grid.{gradeOf};
+ghost use Rattle.fit.specs.Grid.{gradeOf, scoreOf};
 ghost use Rattle.fit.specs.Fits as spec;
 ghost use Rattle.fit.specs.Contracts.{sampledCells};
 
@@ -139,4 +139,15 @@ pub fn grade(
     }
     let score = grid::fisher(means, n, within);
     Grade::Score(score)
+}
+
+// The score that a grade stands for: outside and too few as −∞.
+pub fn score_of(g: Grade) -> f64
+    ensures { λ r. ⌜ r ≡ scoreOf g ⌝ }
+{
+    match g {
+        Grade::Score(s) => s,
+        Grade::Outside(_) => -(1.0 / 0.0),
+        Grade::TooFew => -(1.0 / 0.0),
+    }
 }

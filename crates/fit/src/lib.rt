@@ -37,8 +37,8 @@ pub fn fit_for(w: usize, h: usize, frame: FrameSpec, points: Quad, k: f64) -> Fi
     internal::fitted(w, h, frame, points, k)
 }
 
-// How well a fit explains the cell grid: the variance between cells over that within them, from nine
-// taps in every third row and column of cells. Refusals 1, 2 and 3 (means).
+// How well a fit explains the cell grid: the variance between cells over that within them, from
+// nine taps in every third row and column of cells. Refusals 1, 2 and 3 (means).
 pub fn grid_score(
     capture: &[u8],
     w: usize,
@@ -76,14 +76,15 @@ impl GeometryFit {
     }
 }
 
-// What fit_for gives: the fit beside the enum. Where it is refused the fit is the identity with no lens.
+// What fit_for gives: the fit beside the enum. Where it is refused the fit is the identity with no
+// lens.
 pub struct Fitted {
     pub verdict: Verdict,
     pub fit: GeometryFit,
 }
 
-// What the cell grid says of a fit: a score; or a tap outside the picture, with the number of its cell;
-// or fewer than 16 sampled cells.
+// What the cell grid says of a fit: a score; or a tap outside the picture, with the number of its
+// cell; or fewer than 16 sampled cells.
 pub enum Grade {
     Score(f64),
     Outside(usize),

@@ -120,11 +120,11 @@ module _ (img : Image) (f : FrameSpec) {t t′ : List Check} {a a′ b b′ : Ar
   same-number = same-lowest img f t t′ g g′ e (h .number) (h′ .number) (h .refusal) (h′ .refusal)
 
   abbrev Counts : Type 0
-  Counts = (r .patches ≡ r′ .patches) × (r .candidates ≡ r′ .candidates) × (r .waiting ≡ r′ .waiting)
+  Counts = (r .patches ≡ r′ .patches) × (r .candidates ≡ r′ .candidates) × (r .waited ≡ r′ .waited)
 
-  counts : Looked img f a b (r .patches) (r .candidates) (r .waiting) → Looked img f a′ b′ (r′ .patches) (r′ .candidates) (r′ .waiting) → Counts
+  counts : Looked img f a b (r .patches) (r .candidates) (r .waited) → Looked img f a′ b′ (r′ .patches) (r′ .candidates) (r′ .waited) → Counts
   counts l l′ =
-      (look.same-patches img f _ _ _ _ _ _ _ _ _ _ l l′, look.same-candidates img f _ _ _ _ _ _ _ _ _ _ l l′, look.same-waiting img f _ _ _ _ _ _ _ _ _ _ l l′)
+      (look.same-patches img f _ _ _ _ _ _ _ _ _ _ l l′, look.same-candidates img f _ _ _ _ _ _ _ _ _ _ l l′, look.same-waited img f _ _ _ _ _ _ _ _ _ _ l l′)
 
   module _ (yes : h .number ≡ 0) where
     abbrev yes′ : h′ .number ≡ 0
@@ -179,7 +179,7 @@ module _ (img : Image) (f : FrameSpec) {t t′ : List Check} {a a′ b b′ : Ar
         places = p .1 i;
         patches = p .2 .0 i;
         candidates = p .2 .1 i;
-        waiting = p .2 .2 i;
+        waited = p .2 .2 i;
       }
 
   looks-agree : lowestOf t ≡ 0 → Kind (h .number) → SameLook img b b′ (r .patches) (r .candidates)

@@ -3,6 +3,7 @@ use mathlib.Core.Path.{_≡_, refl, sym, ap, subst}
 use mathlib.Core.Bool.{Bool, true, false, not, _||_}
 use mathlib.Core.List.{List, []}
 use Prim.Native.Nat.{ℕ, zero, suc, _≤_, _<_}
+use native.Mathlib.Nat.{pos-of-ne-zero}
 use native.Mathlib.Omega.{arith}
 use lib.Dec.{T, T-not, ltb}
 use lib.ListN.{length}
@@ -14,7 +15,7 @@ use Rattle.frame.specs.Refusals.{Lowest, Check, Tested, lowestOf, captureWrong}
 use Rattle.frame.specs.Refusals.Lowest.{accepted, refused}
 use Rattle.frame.proofs.Held.{capture-held}
 use Rattle.frame.proofs.Lowest.{Rising, lowest-of, none-tested}
-use Rattle.frame.proofs.Tests.{or-left, or-right}
+use Rattle.base.proofs.Tests.{or-left, or-right}
 use Rattle.frame.specs.declared.FrameSpec.{FrameSpec}
 use Rattle.frame.specs.declared.Quad.{Quad}
 use Rattle.candidates.specs.Areas.{Areas, lengthsOf, shorter, smallest, areaShort}
@@ -88,17 +89,17 @@ module _ (img : Image) (f : FrameSpec) (tests : List Check) (none : (j : ℕ) �
 -- ---- past the tests
 
 pub report-kept : (d : Found) (t : Stage) → keeps (t .kept) ≡ true
-    → record { number = 0; stage = t; places = d .places; patches = d .patches; candidates = d .candidates; waiting = d .waiting } ≡ searchedReport d t
+    → record { number = 0; stage = t; places = d .places; patches = d .patches; candidates = d .candidates; waited = d .waited } ≡ searchedReport d t
 unfolding searchedReport
 report-kept d t k = pick-yes _ _ _ k
 
 pub report-none : (d : Found) (t : Stage) → keeps (t .kept) ≡ false
-    → record { number = 10; stage = t; places = noPlaces; patches = d .patches; candidates = d .candidates; waiting = d .waiting } ≡ searchedReport d t
+    → record { number = 10; stage = t; places = noPlaces; patches = d .patches; candidates = d .candidates; waited = d .waited } ≡ searchedReport d t
 unfolding searchedReport
 report-none d t k = pick-no _ _ _ k
 
 module _ (img : Image) (f : FrameSpec) (a b : Areas) (means : List Float) (d : Found)
-    (h : DetectionPastTests img f a b (d .number) (d .patches) (d .candidates) (d .waiting) (d .places) (d .quad)) where
+    (h : DetectionPastTests img f a b (d .number) (d .patches) (d .candidates) (d .waited) (d .places) (d .quad)) where
   pub past-tests-unsearched : 1 ≤ d .number → FitPastTests img f a b means means (unsearched d)
   unfolding unsearched
   past-tests-unsearched n =
@@ -119,7 +120,7 @@ module _ (img : Image) (f : FrameSpec) (a b : Areas) (means : List Float) (d : F
 
   module _ (means′ : List Float) (rest : MeansKept f means means′) (z : d .number ≡ 0) where
     kept-picture : keeps (searched img f (d .quad) .kept) ≡ true
-        → FitPastTests img f a b means means′ (record { number = 0; stage = searched img f (d .quad); places = d .places; patches = d .patches; candidates = d .candidates; waiting = d .waiting })
+        → FitPastTests img f a b means means′ (record { number = 0; stage = searched img f (d .quad); places = d .places; patches = d .patches; candidates = d .candidates; waited = d .waited })
     kept-picture k =
         let g = some-grade (searched img f (d .quad) .kept) (subst T (sym k) tt) in
         let c : d .quad ≡ centersAt (b .patches) (d .places) = h .centers z in
@@ -139,7 +140,7 @@ module _ (img : Image) (f : FrameSpec) (a b : Areas) (means : List Float) (d : F
         }
 
     fruitless-picture : keeps (searched img f (d .quad) .kept) ≡ false
-        → FitPastTests img f a b means means′ (record { number = 10; stage = searched img f (d .quad); places = noPlaces; patches = d .patches; candidates = d .candidates; waiting = d .waiting })
+        → FitPastTests img f a b means means′ (record { number = 10; stage = searched img f (d .quad); places = noPlaces; patches = d .patches; candidates = d .candidates; waited = d .waited })
     fruitless-picture k =
         record {
           looked = h .looked;
@@ -164,16 +165,12 @@ module _ (img : Image) (f : FrameSpec) (a b : Areas) (means : List Float) (d : F
 
 -- .. as the code has it
 pub unsearched-is : (img : Image) (f : FrameSpec) (a b : Areas) (means : List Float) (d : Found) (r : FitReport)
-    → DetectionPastTests img f a b (d .number) (d .patches) (d .candidates) (d .waiting) (d .places) (d .quad)
+    → DetectionPastTests img f a b (d .number) (d .patches) (d .candidates) (d .waited) (d .places) (d .quad)
     → (d .number ≡ 0 → ⊥) → r ≡ unsearched d → FitPastTests img f a b means means r
-unsearched-is img f a b means d r h n e = subst (FitPastTests img f a b means means) (sym e) (past-tests-unsearched img f a b means d h (some-number (d .number) n))
-  where
-    some-number : (k : ℕ) → (k ≡ 0 → ⊥) → 1 ≤ k
-    some-number zero z = absurd (z refl)
-    some-number (suc k) z = omega arith
+unsearched-is img f a b means d r h n e = subst (FitPastTests img f a b means means) (sym e) (past-tests-unsearched img f a b means d h (pos-of-ne-zero n))
 
 pub searched-is : (img : Image) (f : FrameSpec) (a b : Areas) (means means′ : List Float) (d : Found) (t : Stage) (r : FitReport)
-    → DetectionPastTests img f a b (d .number) (d .patches) (d .candidates) (d .waiting) (d .places) (d .quad)
+    → DetectionPastTests img f a b (d .number) (d .patches) (d .candidates) (d .waited) (d .places) (d .quad)
     → d .number ≡ 0 → t ≡ searched img f (d .quad) → MeansKept f means means′ → r ≡ searchedReport d t → FitPastTests img f a b means means′ r
 searched-is img f a b means means′ d t r h z e k p = subst (FitPastTests img f a b means means′) (sym p) (past-tests-searched img f a b means d h means′ k z t e)
 

@@ -1,6 +1,6 @@
--- "no answer depends on prior work-area contents": what two calls of `fit_geometry` on one capture and frame have in
--- common, whatever the areas held and however long they are. proofs/Determined shows it from what the function
--- promises. Assumes nothing.
+-- [14.3] no answer depends on what the work areas held before: what two calls of `fit_geometry` on one capture and
+-- frame have in common, whatever the areas held and however long they are. proofs/Determined shows it from what the
+-- function promises. Assumes nothing.
 use Prim.Native.Nat.{ℕ}
 use mathlib.Core.Path.{_≡_}
 use mathlib.Core.List.{List}

@@ -25,10 +25,11 @@ use Rattle.fit_geometry.specs.declared.PictureFit.{PictureFit}
 -- the conditions of `fit_geometry` and `rectify`, each with its number: those of `detect_fiducials`, and 10
 pub data Unfitted (img : Image) (f : FrameSpec) (tests : List Check) (n : ℕ) : Type 0 where
   undetected : Undetected img f tests n → Unfitted img f tests n
-  -- "10: no homography; in `fit_geometry` and its callers, a stage in which no trial has one"
+  -- [2.10] 10: a stage in which no trial has a homography
   barren : n ≡ 10 → (q : Quad) → MarkedBy img f q → BarrenStage img f q → Unfitted img f tests n
 
--- "3: a work area too short", "cell means one for each sampled cell" among them; the areas by their lengths
+-- [2.3, 3.1] 3: a work area is too short, the cell means (one for each sampled cell) among them; the areas by their
+-- lengths
 abbrev pub fitShort : Image → FrameSpec → Lengths → ℕ → Bool
 fitShort img f l means = shorter l (smallest (img .w) (img .h)) || ltb means (sampledCells f)
 
@@ -46,7 +47,7 @@ unsearched d =
       places = noPlaces;
       patches = d .patches;
       candidates = d .candidates;
-      waiting = d .waiting;
+      waited = d .waited;
     }
 
 -- the corners d and the search's last stage t
@@ -59,7 +60,7 @@ searchedReport d t =
       places = d .places;
       patches = d .patches;
       candidates = d .candidates;
-      waiting = d .waiting;
+      waited = d .waited;
     })
     (record {
       number = 10;
@@ -67,13 +68,13 @@ searchedReport d t =
       places = noPlaces;
       patches = d .patches;
       candidates = d .candidates;
-      waiting = d .waiting;
+      waited = d .waited;
     })
 
 -- what a call leaves where no test refuses it: areas a, then b; its answer r
 pub record FitPastTests (img : Image) (f : FrameSpec) (a b : Areas) (means means′ : List Float) (r : FitReport)
     : Type 0 where
-  pub looked : Looked img f a b (r .patches) (r .candidates) (r .waiting)
+  pub looked : Looked img f a b (r .patches) (r .candidates) (r .waited)
   pub means-rest : MeansKept f means means′
   -- 7 to 10, or 0: the lowest number that applies, after any tests of which none holds
   pub lowest : (tests : List Check) → ((j : ℕ) → Tested j tests → ⊥) → Lowest (Unfitted img f tests) (r .number)
@@ -83,7 +84,7 @@ pub record FitPastTests (img : Image) (f : FrameSpec) (a b : Areas) (means means
   pub found : r .number ≡ 0 → r .stage ≡ searched img f (centersAt (b .patches) (r .places))
   pub best : r .number ≡ 0 → BestTrial img f (centersAt (b .patches) (r .places)) 2
       (lastCenter img f (centersAt (b .patches) (r .places))) (r .stage .fit)
-  -- "78 when accepted"
+  -- [12.6] 78 when accepted
   pub tried-all : r .number ≡ 0 → r .stage .tried ≡ 78
   -- 10: the search up to and with the stage that has no trial with a homography
   pub fruitless : r .number ≡ 10 → (q : Quad) → MarkedBy img f q → r .stage ≡ searched img f q
@@ -104,12 +105,12 @@ answerOf p =
       places = p .places;
       patches = p .patches;
       candidates = p .candidates;
-      waiting = p .waiting;
+      waited = p .waited;
     }
 
 -- refused by a test
 unfoldable pub refusedByTest : ℕ → FitReport
-refusedByTest n = record { number = n; stage = begun 0 0; places = noPlaces; patches = 0; candidates = 0; waiting = 0 }
+refusedByTest n = record { number = n; stage = begun 0 0; places = noPlaces; patches = 0; candidates = 0; waited = 0 }
 
 -- the kept trial and the counts of an answer
 abbrev pub stageOf : PictureFit → Stage
@@ -121,18 +122,18 @@ pub record FittingAfter (img : Image) (f : FrameSpec) (tests : List Check) (a b 
   pub number : ℕ
   pub given : r .verdict ≡ verdictOf number
   pub refusal : Lowest (Unfitted img f tests) number
-  -- "1 to 6 touch no memory"
+  -- [2.17] 1 to 6 touch no memory
   pub untouched : 1 ≤ number → number ≤ 6 → (b ≡ a) × (means′ ≡ means) × (r .patches ≡ 0) × (r .candidates ≡ 0)
-      × (r .waiting ≡ 0)
+      × (r .waited ≡ 0)
   -- from 7 on, and accepted: planes, marks and records
-  pub refused : 7 ≤ number → Looked img f a b (r .patches) (r .candidates) (r .waiting)
-  pub accepted : number ≡ 0 → Looked img f a b (r .patches) (r .candidates) (r .waiting)
+  pub refused : 7 ≤ number → Looked img f a b (r .patches) (r .candidates) (r .waited)
+  pub accepted : number ≡ 0 → Looked img f a b (r .patches) (r .candidates) (r .waited)
   pub means-rest : MeansKept f means means′
   pub corners : (e : number ≡ 0) → Cornered img f (b .patches) (accepted e .firsts) (r .patches) (r .places)
-  -- the kept trial with its grade and fit, and "trials tried .. and how many had a homography"
+  -- [12.6] the kept trial with its grade and fit, the trials tried and how many had a homography
   pub found : number ≡ 0 → stageOf r ≡ searched img f (centersAt (b .patches) (r .places))
-  -- "The reported fit is a trial of the last lens stage over those four patches' centres. No other trial of that stage
-  -- scores more, and no earlier one as much."
+  -- [0.5] the reported fit is a trial of the last lens stage over those four patches' centres; no other trial of that
+  -- stage scores more, and no earlier one as much
   pub best : number ≡ 0 → BestTrial img f (centersAt (b .patches) (r .places)) 2
       (lastCenter img f (centersAt (b .patches) (r .places))) (r .fit)
   pub tried-all : number ≡ 0 → r .tried ≡ 78

@@ -2,8 +2,8 @@
 use super::FitReport;
 use super::PictureFit;
 use candidates::Lengths;
-use candidates::internal::areas_short;
-use candidates::internal::picture_refused;
+use candidates::tests::areas_short;
+use candidates::tests::picture_refused;
 use fiducials::Found;
 use fiducials::internal::detect;
 use fiducials::internal::no_places;
@@ -69,7 +69,7 @@ fn unsearched(d: Found) -> FitReport
         places: places,
         patches: d.patches,
         candidates: d.candidates,
-        waiting: d.waiting,
+        waited: d.waited,
     }
 }
 
@@ -87,7 +87,7 @@ fn searched_report(d: Found, stage: Stage) -> FitReport
                 places: places,
                 patches: d.patches,
                 candidates: d.candidates,
-                waiting: d.waiting,
+                waited: d.waited,
             }
         }
         Outcome::Graded(_) => {
@@ -98,7 +98,7 @@ fn searched_report(d: Found, stage: Stage) -> FitReport
                 places: places,
                 patches: d.patches,
                 candidates: d.candidates,
-                waiting: d.waiting,
+                waited: d.waited,
             }
         }
     }
@@ -189,7 +189,7 @@ pub fn answer(p: FitReport) -> PictureFit
         places: places,
         patches: p.patches,
         candidates: p.candidates,
-        waiting: p.waiting,
+        waited: p.waited,
     }
 }
 
@@ -205,7 +205,7 @@ pub fn refused_by_test(number: u32) -> PictureFit
         places: places,
         patches: 0,
         candidates: 0,
-        waiting: 0,
+        waited: 0,
     };
     answer(p)
 }

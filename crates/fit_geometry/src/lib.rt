@@ -12,21 +12,21 @@ ghost use Rattle.fit_geometry.specs.Contracts.{Fitting};
 
 pub mod internal;
 
-// What a detection and a search give: 0 or a number from 7 on, the search's last stage, the corners'
-// places, and how much of the lists is filled.
+// What a detection and a search give: 0 or a number from 7 on, the search's last stage, the
+// corners' places, and how much of the lists is filled.
 pub struct FitReport {
     pub number: u32,
     pub stage: Stage,
     pub places: Places,
     pub patches: usize,
     pub candidates: usize,
-    pub waiting: usize,
+    pub waited: usize,
 }
 
-// The answer of fit_geometry: the fit and beside it the grade of the kept trial, the counts of trials
-// and homographies, the corners' places in the patch list, how many patches and candidates there are
-// and the most pixels that waited. Where it is refused there is no fit and the places are 0; the
-// counts are those of the trials made.
+// The answer of fit_geometry: the fit and beside it the grade of the kept trial, the counts of
+// trials and homographies, the corners' places in the patch list, how many patches and candidates
+// there are and the most pixels that waited. Where it is refused there is no fit and the places are
+// 0; the counts are those of the trials made.
 pub struct PictureFit {
     pub verdict: Verdict,
     pub fit: GeometryFit,
@@ -36,7 +36,7 @@ pub struct PictureFit {
     pub places: Places,
     pub patches: usize,
     pub candidates: usize,
-    pub waiting: usize,
+    pub waited: usize,
 }
 
 // Finds the four fiducials and fits the whole geometry, canonical to capture, with the lens term.

@@ -1,8 +1,9 @@
--- Float helpers (document 01, "Float helpers"). ⊕ ⊖ ⊗ ⊘ are IEEE 754's rounded operations on f64. Assumes nothing.
-use Prim.Native.Nat.{ℕ, _+_, _*_, _/_}
-use mathlib.Core.Bool.{false, cond}
+-- Float helpers (requirements, 4). ⊕ ⊖ ⊗ ⊘ are IEEE 754's rounded operations on f64. Assumes nothing.
+use Prim.Native.Nat.{ℕ, _+_, _-_, _*_, _/_}
+use mathlib.Core.Bool.{true, false, cond}
 use lib.IntN.{pos}
-use lib.Ieee.{Float, nan, inf, fin, binary32, binary64, up, down, round, ofInt, toUnsigned, lt, isNan, add, sub, mul, div}
+use lib.Ieee.{Float, nan, inf, fin, binary32, binary64, up, down, round, ofInt, toUnsigned, lt, isNan}
+use lib.Ieee.{add, sub, mul, div}
 use Rattle.base.specs.Loops.{turns}
 
 infixl 65 _⊕_
@@ -39,23 +40,30 @@ d32 num den = round binary32 false num den
 abbrev pub tiny : Float
 tiny = d64 1 1000000000000
 
--- "Narrowing f64 to f32: nearest, ties to even"
+-- [4.2] narrowing f64 to f32 is to nearest, ties to even
 unfoldable pub narrowed : Float → Float
 narrowed nan = nan
 narrowed (inf s) = inf s
 narrowed (fin s m e) = round binary32 s (m * up e) (down e)
 
--- "widening is exact": one type of values serves both formats
+-- [4.2] widening is exact: one type of values serves both formats
 abbrev pub widened : Float → Float
 widened x = x
 
--- "`round`: halves away from zero"
+-- [4.3] `round` takes halves away from zero
 unfoldable pub roundOf : Float → Float
 roundOf nan = nan
 roundOf (inf s) = inf s
 roundOf (fin s m e) = round binary64 s ((m * up e * 2 + down e) / (down e * 2)) 1
 
--- "a float becomes a u8 or usize as Rust's `as` does it: NaN gives 0, ends saturate"
+-- [4.4] Rust's `floor`, exact: the whole number at x or next below it
+unfoldable pub floorOf : Float → Float
+floorOf nan = nan
+floorOf (inf s) = inf s
+floorOf (fin false m e) = round binary64 false (m * up e / down e) 1
+floorOf (fin true m e) = round binary64 true ((m * up e + (down e - 1)) / down e) 1
+
+-- [4.4] a float becomes a u8 or a usize as Rust's `as` does it: NaN gives 0, ends saturate
 abbrev pub asU8 : Float → ℕ
 asU8 x = toUnsigned 8 x
 
@@ -68,7 +76,7 @@ absOf nan = nan
 absOf (inf s) = inf false
 absOf (fin s m e) = fin false m e
 
--- 1 with the sign of x: "+0 is positive, −0 negative"
+-- [9.3] 1 with the sign of x: +0 is positive, −0 negative
 unfoldable pub signumOf : Float → Float
 signumOf nan = nan
 signumOf (inf s) = fin s 1 (pos 0)
@@ -83,11 +91,11 @@ maxOf x y = cond (isNan x) y (cond (lt x y) y x)
 unfoldable pub clampOf : Float → Float → Float → Float
 clampOf lo hi x = cond (lt x lo) lo (cond (lt hi x) hi x)
 
--- "`powi(2)` means the value times itself"
+-- [4.5] `powi(2)` means the value times itself
 unfoldable pub squared : Float → Float
 squared x = x ⊗ x
 
--- "Sums start at zero and go in the source's order": f 0 + f 1 + .. + f (n - 1)
+-- [4.6] sums start at zero and go in the source's order: f 0 + f 1 + .. + f (n - 1)
 abbrev pub addAt : (ℕ → Float) → ℕ → Float → Float
 addAt f k s = s ⊕ f k
 

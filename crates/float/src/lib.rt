@@ -1,5 +1,5 @@
-// The float operations that Rattle lacks, each as IEEE 754 and Rust have it (document 01, "Float
-// helpers"). Every function takes every value, NaNs, infinities and both zeros too, and its
+// The float operations that Rattle lacks, each as IEEE 754 and Rust have it (requirements, 4).
+// Every function of floats takes every value, NaNs, infinities and both zeros too, and each
 // contract is an equation with a definition of specs/.
 mod order;
 mod root;
@@ -14,6 +14,7 @@ pub use root::sqrt;
 pub use rounding::round;
 pub use sign::abs;
 pub use sign::signum;
+pub use whole::to_f64;
 pub use whole::to_u8;
 pub use whole::to_usize;
 pub use width::narrow;

@@ -35,7 +35,8 @@ pub fn sqrt(x: f64) -> f64
 }
 
 // The root of d * 2^(g + 50) units of 2^-2148. An odd g lends one factor of 2 to the digits, and
-// half of the rest is the root's exponent. The sum carries where the root's digits round up to 2^53.
+// half of the rest is the root's exponent. The sum carries where the root's digits round up to
+// 2^53.
 fn scaled_root(d: u64, g: u64) -> f64
     requires { ⌜ 2 ^ 52 ≤ d ⌝ ∗ ⌜ d < 2 ^ 53 ⌝ ∗ ⌜ 900 ≤ g ⌝ ∗ ⌜ g < 3072 ⌝ }
     ensures { λ r. ⌜ r ≡ units binary64 false (nearestRoot (d * 2 ^ (g % 2) * 2 ^ 52)) (g / 2 - 1) ⌝ }

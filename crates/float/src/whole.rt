@@ -1,7 +1,8 @@
 // Rust's `as` from a float to an unsigned number: the whole part, the nearer end of the range where
-// x is past it, 0 for a NaN.
+// x is past it, 0 for a NaN. And back.
 ghost use mathlib.Core.Path.{_≡_};
-ghost use Rattle.float.specs.Floats.{asU8, asUsize};
+ghost use Prim.Native.Nat.{_≤_, _^_};
+ghost use Rattle.float.specs.Floats.{f64, asU8, asUsize};
 
 // Rust's `x as u8`. The whole part is the digits of x's pattern, shifted down.
 pub fn to_u8(x: f64) -> u8
@@ -49,4 +50,12 @@ fn large_to_usize(x: f64) -> usize
     } else {
         0
     }
+}
+
+// A count up to 2^53 as a float, by one instruction.
+pub fn to_f64(n: usize) -> f64
+    requires { ⌜ n ≤ 2 ^ 53 ⌝ }
+    ensures { λ r. ⌜ r ≡ f64 n ⌝ }
+{
+    (n as i64) as f64
 }

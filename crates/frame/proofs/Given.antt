@@ -9,6 +9,16 @@ use Rattle.frame.specs.declared.Verdict.the-variants as D
 use Rattle.frame.specs.declared.Number.the-variants as N
 use Rattle.frame.specs.declared.Framed.the-variants as F
 
+-- a verdict from its number
+pub refused-is : (n : ℕ) → (n ≡ 0 → ⊥) → D.Refused n ≡ verdictOf n
+unfolding verdictOf
+refused-is zero h = absurd (h refl)
+refused-is (suc n) h = refl
+
+pub accepted-is : (n : ℕ) → n ≡ 0 → D.Accepted ≡ verdictOf n
+unfolding verdictOf
+accepted-is n e = rw e
+
 module _ (tests : List Check) where
   -- refused by a number
   pub verdict-refused : (n : ℕ) → lowestOf tests ≡ suc n → D.Refused (suc n) ≡ verdictOf (lowestOf tests)
@@ -25,8 +35,7 @@ module _ (tests : List Check) where
 
   -- accepted
   pub verdict-accepted : lowestOf tests ≡ 0 → D.Accepted ≡ verdictOf (lowestOf tests)
-  unfolding verdictOf
-  verdict-accepted e = rw e
+  verdict-accepted e = accepted-is _ e
 
   pub number-accepted : (v : ℕ) → lowestOf tests ≡ 0 → N.Is v ≡ numberFor tests v
   unfolding numberFor numberAs

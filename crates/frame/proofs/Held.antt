@@ -9,7 +9,7 @@ use Rattle.frame.specs.Image.{Image}
 use Rattle.frame.specs.Refusals.{side, cellHeld, frameOutside, sidesWrong, captureWrong, captureSmall}
 use Rattle.frame.specs.Limits.{FrameHeld, SidesHeld, CaptureHeld}
 use Rattle.frame.specs.declared.FrameSpec.{FrameSpec}
-use Rattle.frame.proofs.Tests.{and-left, and-right, or-left, or-right}
+use Rattle.base.proofs.Tests.{and-left, and-right, or-left, or-right}
 
 pub side-least : (n : ℕ) → side n ≡ true → 1 ≤ n
 unfolding side

@@ -1,5 +1,4 @@
 -- Laws that other crates' proofs cite.
-pub mod Tests
 pub mod Lowest
 pub mod Given
 pub mod Held

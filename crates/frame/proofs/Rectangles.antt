@@ -8,12 +8,13 @@ use native.Mathlib.Omega.{arith}
 use lib.Dec.{leb, ltb, eqb}
 use lib.ListN.{length}
 use borrow.Author.Tests.{leb-true, ltb-true, eqb-true, eqb-false, le-leb, lt-ltb}
-use Rattle.base.proofs.Plane.{length-filled, le-or-lt}
+use Rattle.base.proofs.Plane.{length-filled}
 use Rattle.frame.specs.Image.{image, px, withPixel, inRect, withRect}
 use Rattle.frame.specs.declared.Rgb.{Rgb}
-use Rattle.frame.proofs.Tests.{and-left, and-right, and-both, same-test, cond-or, either, or-cases, or-first, or-second}
+use Rattle.base.proofs.Tests.{and-left, and-right, and-both, same-test, cond-or, either, or-cases, or-first, or-second}
 use Rattle.frame.proofs.Pixels.{Shows, filled-shows, shows-filled, length-pixel, pixel-same, pixel-other}
 use Rattle.base.proofs.Pick.{pick-yes, pick-no}
+use Rattle.base.proofs.Arith.{le-or-lt}
 
 -- a rectangle's test is its four bounds
 pub record Within (x0 y0 width height x y : ℕ) : Type 0 where

@@ -1,5 +1,6 @@
--- Answers that carry a value or the number of a refusal: document 01's number and value for each case, and the answer
--- that a call's tests and value give. The crates above have answers of their own, defined alike. Assumes nothing.
+-- Answers that carry a value or the number of a refusal: its number (requirements, 2) and value for each case, and the
+-- answer that a call's tests and value give. The crates above have answers of their own, defined alike. Assumes
+-- nothing.
 use Prim.Native.Nat.{ℕ, zero, suc}
 use mathlib.Core.List.{List}
 use Rattle.frame.specs.Refusals.{Check, lowestOf}
@@ -26,7 +27,7 @@ unfoldable pub numberAs : ℕ → ℕ → Number
 numberAs zero v = N.Is v
 numberAs (suc n) v = N.Refused (suc n)
 
--- "The lowest number that applies is given", and else the value
+-- [2.12] the lowest number that applies, and else the value
 unfoldable pub numberFor : List Check → ℕ → Number
 numberFor tests v = numberAs (lowestOf tests) v
 

@@ -1,12 +1,12 @@
--- FrameSpec (frame.rs; document 01, "Frame and layout"). Assumes nothing.
+-- FrameSpec (frame.rs; requirements, 5). Assumes nothing.
 use Prim.Native.Nat.{ℕ, _+_, _*_, _-_, _/_}
 use Rattle.frame.specs.declared.FrameSpec.{FrameSpec}
 
--- "`new`" keeps the Rust's margin: one cell
+-- [5.4] `new` keeps the Rust's margin: one cell
 unfoldable pub newFrame : ℕ → ℕ → ℕ → FrameSpec
 newFrame width height cell = record { width = width; height = height; cell = cell; margin = cell }
 
--- "Where a side is below 2·margin, `cols` or `rows` is 0": the difference of whole numbers stops at 0
+-- [5.5] where a side is below 2·margin, `cols` or `rows` is 0: the difference of whole numbers stops at 0
 unfoldable pub cols : FrameSpec → ℕ
 cols f = (f .width - 2 * f .margin) / f .cell
 

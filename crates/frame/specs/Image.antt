@@ -53,12 +53,12 @@ withPixel img x y c =
 unfoldable pub inRect : ℕ → ℕ → ℕ → ℕ → ℕ → ℕ → Bool
 inRect x0 y0 width height x y = leb x0 x && ltb x (x0 + width) && leb y0 y && ltb y (y0 + height)
 
--- .. and the bytes once the rectangle has the colour c ("clipped": only pixels of the picture are asked)
+-- .. and the bytes once the rectangle has the colour c (clipped: only pixels of the picture are asked)
 unfoldable pub withRect : Image → ℕ → ℕ → ℕ → ℕ → Rgb → List ℕ
 withRect img x0 y0 width height c =
     filled (byteOf (img .w) (λ x y. cond (inRect x0 y0 width height x y) c (px img x y))) (3 * img .w * img .h)
     (img .bytes)
 
--- "A tap is outside when x < 0, y < 0, x ≥ w or y ≥ h; a NaN coordinate compares false"
+-- [11.4] a place is outside when x < 0, y < 0, x ≥ w or y ≥ h; a NaN coordinate compares false
 unfoldable pub outside : ℕ → ℕ → Float → Float → Bool
 outside w h x y = lt x (f64 0) || lt y (f64 0) || le (f64 w) x || le (f64 h) y

@@ -1,5 +1,4 @@
--- Limits and refusals (document 01, "Limits" and "Refusals by who can cause them"): what every layer shares. Assumes
--- nothing.
+-- Limits and refusals (requirements, 1.5, 1.6 and 2): what every layer shares. Assumes nothing.
 use Prim.Native.Nat.{ℕ, zero, suc, _*_, _<_}
 use mathlib.Core.Path.{_≡_}
 use mathlib.Core.Bool.{Bool, cond, not, _&&_, _||_}
@@ -23,7 +22,7 @@ unfoldable pub verdictOf : ℕ → Verdict
 verdictOf zero = Accepted
 verdictOf (suc n) = Refused (suc n)
 
--- "The lowest number that applies is given": n is the lowest number whose condition C n holds, or 0 where no
+-- [2.12] the lowest number that applies is given: n is the lowest number whose condition C n holds, or 0 where no
 -- condition holds
 pub data Lowest (C : ℕ → Type 0) (n : ℕ) : Type 0 where
   accepted : n ≡ 0 → ((k : ℕ) → C k → ⊥) → Lowest C n
@@ -49,27 +48,27 @@ lowestOf (c ∷ l) = cond (c .holds) (c .number) (lowestOf l)
 
 -- ---- limits
 
--- "sides 1 to 4,096"
+-- [1.5, 1.6] sides are 1 to 4,096
 unfoldable pub side : ℕ → Bool
 side n = leb 1 n && leb n 4096
 
--- "cell 1 to 512"
+-- [1.6] a cell is 1 to 512
 unfoldable pub cellHeld : ℕ → Bool
 cellHeld n = leb 1 n && leb n 512
 
--- "1: a frame number outside its limit"; "frame sides 1 to 4,096, cell 1 to 512, margin 0 to 4,096"
+-- [2.1] 1: a frame number is outside its limit; [1.6] sides 1 to 4,096, cell 1 to 512, margin 0 to 4,096
 unfoldable pub frameOutside : FrameSpec → Bool
 frameOutside f = not (side (f .width) && side (f .height) && cellHeld (f .cell) && leb (f .margin) 4096)
 
--- "lone w and h are capture sides"
+-- [2.13] lone w and h are capture sides
 unfoldable pub sidesWrong : ℕ → ℕ → Bool
 sidesWrong w h = not (side w && side h)
 
--- "2: capture side outside its limit, or byte length wrong"
+-- [2.2] 2: a capture side is outside its limit, or the number of bytes is wrong
 unfoldable pub captureWrong : Image → Bool
 captureWrong img = not (side (img .w) && side (img .h) && eqb (length (img .bytes)) (3 * img .w * img .h))
 
--- "6: capture side below 32"
+-- [2.6] 6: a capture side is below 32
 unfoldable pub captureSmall : Image → Bool
 captureSmall img = ltb (img .w) 32 || ltb (img .h) 32
 
@@ -77,7 +76,7 @@ captureSmall img = ltb (img .w) 32 || ltb (img .h) 32
 unfoldable pub frameTests : FrameSpec → List Check
 frameTests f = check 1 (frameOutside f) ∷ []
 
--- `Radial::new`: "lone w and h are capture sides"
+-- `Radial::new`: [2.13] lone w and h are capture sides
 unfoldable pub sideTests : ℕ → ℕ → List Check
 sideTests w h = check 2 (sidesWrong w h) ∷ []
 

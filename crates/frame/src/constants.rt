@@ -1,5 +1,5 @@
-// The public constants have the values of frame.rs and palette.rs: a function of one line for each, so
-// that a changed value is refused, whether the code uses the constant or not.
+// The public constants have the values of frame.rs and palette.rs: a function of one line for each,
+// so that a changed value is refused, whether the code uses the constant or not.
 use super::FrameSpec;
 use super::Rgb;
 ghost use mathlib.Core.Path.{_≡_};

@@ -1,7 +1,7 @@
-// What the crates above need and document 01 does not call public: pixels, tests of limits, and
+// What the crates above need and the requirements do not call public: pixels, tests of limits, and
 // the functions behind the public ones.
 ghost use mathlib.Core.Path.{_≡_};
-ghost use Prim.Native.Nat.{ℕ, _+_, _*_, _-_, _^_, _≤_, _<_, min};
+ghost use Prim.Native.Nat.{ℕ, _+_, _*_, _-_, _^_, _≤_, _<_};
 ghost use mathlib.Core.List.{List};
 ghost use lib.ListN.{length};
 ghost use Rattle.frame.specs.Image.{image, px, withPixel, withRect, outside};
@@ -10,6 +10,8 @@ ghost use Rattle.frame.specs.Refusals.{side, cellHeld, frameOutside, sid
 ghost use Rattle.frame.specs.Limits.{FrameHeld};
 use super::FrameSpec;
 use super::Rgb;
+use base::min;
+use base::saturating_sub;
 
 // ---- tests
 
@@ -64,22 +66,14 @@ pub fn cols(frame: FrameSpec) -> usize
     requires { ⌜ FrameHeld frame ⌝ }
     ensures { λ r. ⌜ r ≡ cols frame ⌝ }
 {
-    let twice = 2 * frame.margin;
-    if frame.width < twice {
-        return 0;
-    }
-    (frame.width - twice) / frame.cell
+    saturating_sub(frame.width, 2 * frame.margin) / frame.cell
 }
 
 pub fn rows(frame: FrameSpec) -> usize
     requires { ⌜ FrameHeld frame ⌝ }
     ensures { λ r. ⌜ r ≡ rows frame ⌝ }
 {
-    let twice = 2 * frame.margin;
-    if frame.height < twice {
-        return 0;
-    }
-    (frame.height - twice) / frame.cell
+    saturating_sub(frame.height, 2 * frame.margin) / frame.cell
 }
 
 // The Rust's pair (x, y) of a cell's top left pixel.
@@ -120,12 +114,6 @@ pub fn set(bytes: &mut [u8], w: usize, h: usize, x: usize, y: usize, c: Rgb)
     bytes[i] = c.r;
     bytes[i + 1] = c.g;
     bytes[i + 2] = c.b;
-}
-
-fn min(a: usize, b: usize) -> usize
-    ensures { λ r. ⌜ r ≡ min a b ⌝ }
-{
-    if a < b { a } else { b }
 }
 
 // Columns x0 to x1 - 1 of row y.

@@ -43,7 +43,7 @@ pub const WHITE: Rgb = Rgb {
     b: 255,
 };
 
-// Answers: what is asked for, or the number of a refusal (document 01).
+// Answers: what is asked for, or the number of a refusal (requirements, 2).
 pub enum Verdict {
     Accepted,
     Refused(u32),

@@ -51,7 +51,7 @@ accepted = ap (λ z. centersAs z (markerCenters (markers.frame 192 192 1 48))) m
 
 -- the records of a mask are those of any list of its patches
 labelled : (m j : List ℕ) (o : ℕ) (firsts : List ℕ) → PatchList m 3 j j o firsts → Labelled m (table (patchAt j) o)
-labelled m j o firsts p s k l s′ k′ l′ n most h = lists-equal m 3 (h .records) p .2
+labelled m j o firsts p a b n waited h = lists-equal m 3 (h .records) p .2
 
 three : Labelled mask7 (blob 1 0 0 0 0 0 0 ∷ blob 1 2 0 2 0 2 0 ∷ blob 3 2 5 0 1 1 2 ∷ [])
 unfolding table patchAt

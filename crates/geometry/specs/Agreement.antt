@@ -1,6 +1,6 @@
--- "no answer depends on prior work-area contents": what two calls of `rectify` on one capture and frame have in common,
--- whatever was lent and however long it is, where the same tests hold. proofs/Determined shows it from what `rectify`
--- promises. Assumes nothing.
+-- [14.3] no answer depends on what the work areas held before: what two calls of `rectify` on one capture and frame
+-- have in common, whatever was lent and however long it is, where the same tests hold. proofs/Determined shows it from
+-- what `rectify` promises. Assumes nothing.
 use Prim.Native.Nat.{ℕ}
 use mathlib.Core.Path.{_≡_}
 use Rattle.frame.specs.Image.{Image}

@@ -12,14 +12,14 @@ use Rattle.frame.specs.declared.FrameSpec.{FrameSpec}
 use Rattle.frame.specs.declared.Verdict.{Verdict}
 use Rattle.fit.specs.declared.GeometryFit.{GeometryFit}
 
--- "4: canonical image length is not 3·width·height"
+-- [2.4] 4: the canonical image's length is not 3·width·height
 abbrev pub canonicalLength : FrameSpec → ℕ
 canonicalLength f = 3 * f .width * f .height
 
 unfoldable pub canonicalWrong : FrameSpec → ℕ → Bool
 canonicalWrong f n = not (eqb n (canonicalLength f))
 
--- `warp_with`: "neither" 5 nor 6
+-- [2.14] `warp_with` gives neither 5 nor 6
 unfoldable pub warpTests : Image → FrameSpec → List ℕ → List Check
 warpTests img f canonical =
     check 1 (frameOutside f) ∷ check 2 (captureWrong img) ∷ check 4 (canonicalWrong f (length canonical)) ∷ []

@@ -1,5 +1,5 @@
--- "M1 to M12 form one proved group under one theorem over the meanings" (document 01, "Marked and other examples").
--- Each field has the sentence that it stands for, over the definitions that the public functions' contracts cite.
+-- [14.5] the marked examples M1 to M12 are one theorem over the meanings; [15.1] each field has the example that it
+-- stands for, over the definitions that the public functions' contracts cite.
 -- proofs/Marked has the proof. Assumes nothing.
 use mathlib.Core.Path.{_≡_}
 use mathlib.Core.Bool.{true, false}
@@ -18,6 +18,7 @@ use Rattle.markers.specs.Contracts.{cellTests, layoutTests}
 use Rattle.markers.specs.Layout.{markerSize, quietZone, marginFor, markerCenters}
 use Rattle.markers.specs.declared.Centers.{Centers}
 use Rattle.markers.specs.declared.Centers.the-variants.{Are, Refused}
+use Rattle.blobs.specs.Areas.{PatchAreas}
 use Rattle.blobs.specs.Labels.{Labels}
 use Rattle.blobs.specs.Patches.{patchAt, PatchList}
 use Rattle.blobs.specs.declared.Blob.{Blob}
@@ -53,7 +54,7 @@ list8 = 7 ∷ 7 ∷ 8 ∷ 0 ∷ 0 ∷ 2 ∷ 2 ∷ []
 -- what `label_blobs` leaves of a mask m, three by three: just these records, whatever the areas held
 abbrev pub Labelled : List ℕ → List Blob → Type 0
 Labelled m blobs =
-    (s k l s′ k′ l′ : List ℕ) (n most : ℕ) → Labels m 3 3 s k l s′ k′ l′ n most → table (patchAt l′) n ≡ blobs
+    (a b : PatchAreas) (n waited : ℕ) → Labels m 3 3 a b n waited → table (patchAt (b .patches)) n ≡ blobs
 
 abbrev pub blob : ℕ → ℕ → ℕ → ℕ → ℕ → ℕ → ℕ → Blob
 blob area sx sy x0 y0 x1 y1 = record { area = area; sx = sx; sy = sy; x0 = x0; y0 = y0; x1 = x1; y1 = y1 }
@@ -70,38 +71,39 @@ Apart s =
     × (lt (s .«light_sum» ⊘ f64 (s .lights) ⊖ s .«dark_sum» ⊘ f64 (s .darks)) (f64 30) ≡ false)
 
 pub record Marked : Type 0 where
-  -- "M1 cell 9: 72, 12, 96": `marker_size`, `quiet_zone`, `margin_for`
+  -- M1 cell 9: 72, 12, 96 (`marker_size`, `quiet_zone`, `margin_for`)
   pub m1 :
       (numberFor (cellTests 9) (markerSize 9) ≡ Is 72)
       × (numberFor (cellTests 9) (quietZone 9) ≡ Is 12)
       × (numberFor (cellTests 9) (marginFor 9) ≡ Is 96)
-  -- "M2 cell 10: 80, 13, 106"
+  -- M2 cell 10: 80, 13, 106
   pub m2 :
       (numberFor (cellTests 10) (markerSize 10) ≡ Is 80)
       × (numberFor (cellTests 10) (quietZone 10) ≡ Is 13)
       × (numberFor (cellTests 10) (marginFor 10) ≡ Is 106)
-  -- "M3 cell 13: 96, 16, 128"
+  -- M3 cell 13: 96, 16, 128
   pub m3 :
       (numberFor (cellTests 13) (markerSize 13) ≡ Is 96)
       × (numberFor (cellTests 13) (quietZone 13) ≡ Is 16)
       × (numberFor (cellTests 13) (marginFor 13) ≡ Is 128)
-  -- "M4 frame 192 by 192, cell 1, margin 48: centres 24 and 168"
-  pub m4 : centers (frame 192 192 1 48) ≡ Are (record { tl = at 24 24; tr = at 168 24; br = at 168 168; bl = at 24 168 })
-  -- "M5 margin 47, M6 width 191: refusal 5"
+  -- M4 frame 192 by 192, cell 1, margin 48: centres 24 and 168
+  pub m4 : centers (frame 192 192 1 48)
+      ≡ Are (record { tl = at 24 24; tr = at 168 24; br = at 168 168; bl = at 24 168 })
+  -- M5 margin 47, M6 width 191: refusal 5
   pub m5 : centers (frame 192 192 1 47) ≡ Refused 5
   pub m6 : centers (frame 191 192 1 48) ≡ Refused 5
-  -- "M7 the mask above": its list, by the meaning of a patch, with the first pixels 0, 2 and 4, and no other
+  -- M7 the mask of [15.2]: its list, by the meaning of a patch, with the first pixels 0, 2 and 4, and no other
   pub m7 : PatchList mask7 3 list7 list7 3 (0 ∷ 2 ∷ 4 ∷ []) × Labelled mask7 (blob 1 0 0 0 0 0 0 ∷ blob 1 2 0 2 0 2 0
       ∷ blob 3 2 5 0 1 1 2 ∷ [])
-  -- "M8 `#.#`, `#.#`, `###`: one record 7 7 8 0 0 2 2"
+  -- M8 `#.#`, `#.#`, `###`: one record 7 7 8 0 0 2 2
   pub m8 : PatchList mask8 3 list8 list8 1 (0 ∷ []) × Labelled mask8 (blob 7 7 8 0 0 2 2 ∷ [])
-  -- "M9 14 of 17 probes pass, 13 do not"
+  -- M9 14 of 17 probes pass, 13 do not
   pub m9 :
       ((s : Tally) → Agreed 14 17 s → Apart s → enough (shareOf s) ≡ true)
       × ((s : Tally) → Agreed 13 17 s → enough (shareOf s) ≡ false)
-  -- "M10 7 of 9 do not"
+  -- M10 7 of 9 do not
   pub m10 : (s : Tally) → Agreed 7 9 s → enough (shareOf s) ≡ false
-  -- "M11 capture 60 by 80: norm 50"
+  -- M11 capture 60 by 80: norm 50
   pub m11 : (k : Float) → (lensRefusal (newLens 60 80 k) ≡ 0) × (lensValue (newLens 60 80 k) .norm ≡ f64 50)
-  -- "M12 round(2.5) = 3, round(−0.5) = −1"
+  -- M12 round(2.5) = 3, round(−0.5) = −1
   pub m12 : (roundOf (d64 25 10) ≡ f64 3) × (roundOf (neg (d64 5 10)) ≡ neg (f64 1))

@@ -1,4 +1,5 @@
--- What `rectify` does: demand 3 (document 00), its sentences above the fields that state them. Assumes nothing.
+-- What `rectify` does: the third demand (requirements, 0.3 to 0.7), its sentences above the fields that state them.
+-- Assumes nothing.
 use Prim.Native.Nat.{ℕ, zero, suc, _≤_}
 use mathlib.Core.Path.{_≡_}
 use mathlib.Core.List.{List}
@@ -41,46 +42,46 @@ laidWhere (suc n) img f fit canonical = canonical
 
 -- ---- the areas and the answer of a call that is accepted, with the number 0, or refused by 7 to 10
 pub record Seen (img : Image) (f : FrameSpec) (a b : Lent) (r : PictureFit) (number : ℕ) : Type 0 where
-  -- "After an acceptance, and after a refusal by 7 or a higher number, the patch list starts with every patch once,
-  -- in raster order, and their areas add up to the dark pixels."
-  pub looked : Looked img f (a .areas) (b .areas) (r .patches) (r .candidates) (r .waiting)
-  -- "Free: .. cell means"; past the sampled cells they are unchanged
+  -- [0.7] after an acceptance, and after a refusal by 7 or more, the patch list starts with every patch once, in
+  -- raster order, and their areas add up to the dark pixels
+  pub looked : Looked img f (a .areas) (b .areas) (r .patches) (r .candidates) (r .waited)
+  -- [14.2] the cell means are free; [3.2] past the sampled cells they stay as they were
   pub means-rest : MeansKept f (a .means) (b .means)
-  -- "An accepted one names four different patches, one for each corner, each all the dark pixels joined edge to edge,
-  -- each passing the ring rule. No other passing patch lies further out toward that corner, and of equals the first
-  -- in raster order is named."
+  -- [0.4] an accepted one names four different patches, one for each corner, each all the dark pixels joined edge to
+  -- edge, each passing the ring rule; no other passing patch lies further out toward that corner, and of equals the
+  -- first in raster order is named
   pub corners : number ≡ 0 → Cornered img f (b .areas .patches) (looked .firsts) (r .patches) (r .places)
-  -- "The reported fit is a trial of the last lens stage over those four patches' centres. No other trial of that
-  -- stage scores more, and no earlier one as much."
+  -- [0.5] the reported fit is a trial of the last lens stage over those four patches' centres; no other trial of that
+  -- stage scores more, and no earlier one as much
   pub best : number ≡ 0 → BestTrial img f (centersAt (b .areas .patches) (r .places)) 2
       (lastCenter img f (centersAt (b .areas .patches) (r .places))) (r .fit)
-  -- .. and it is the one that the stages keep, with its grade, "trials tried .. and how many had a homography": this
-  -- says which trial it is where a NaN leaves several
+  -- .. and it is the one that the stages keep, with its grade, [12.6] the trials tried and how many had a homography:
+  -- this says which trial it is where a NaN leaves several
   pub found : number ≡ 0 → stageOf r ≡ searched img f (centersAt (b .areas .patches) (r .places))
-  -- "78 when accepted"
+  -- [12.6] 78 when accepted
   pub tried-all : number ≡ 0 → r .tried ≡ 78
-  -- "Every canonical pixel is the reading where that fit puts it."
+  -- [0.6] every canonical pixel is the reading where that fit puts it
   pub laid : number ≡ 0 → b .canonical ≡ warped img f (r .fit) (a .canonical)
-  -- "A refused rectification leaves the canonical image untouched."
+  -- [0.1] a refused rectification leaves the canonical image as it was
   pub kept : 7 ≤ number → b .canonical ≡ a .canonical
   -- by 10: the trials up to and with the stage that has none with a homography
   pub fruitless : number ≡ 10 → (q : Quad) → MarkedBy img f q → stageOf r ≡ searched img f q
 
 -- ---- `rectify`
 pub record Rectification (img : Image) (f : FrameSpec) (a b : Lent) (r : PictureFit) : Type 0 where
-  -- "A refusal returns its number"; 0 is acceptance
+  -- [2.16] a refusal returns its number; 0 is acceptance
   pub number : ℕ
   pub given : r .verdict ≡ verdictOf number
-  -- "a rectification is refused exactly when a condition that document 01 or a later order sets for it holds, by the
-  -- lowest such number"
+  -- [0.3] a rectification is refused exactly when a condition of the requirements holds for it, by the lowest such
+  -- number
   pub refusal : Lowest (Unfitted img f (rectifyTests img f a)) number
-  -- "1 to 6 touch no memory"
+  -- [2.17] 1 to 6 touch no memory
   pub untouched : 1 ≤ number → number ≤ 6 → b ≡ a
-  -- the areas after 7 to 10, and "Acceptance leaves the same planes, marks and records"
+  -- [2.18] the areas after 7 to 10, and after an acceptance
   pub refused : 7 ≤ number → Seen img f a b r number
   pub accepted : number ≡ 0 → Seen img f a b r number
-  -- what an answer holds where there is nothing to tell (document 01 gives a refusal its number only): after 1 to 6
-  -- no patch, after 1 to 9 no trial, after any refusal no place
-  pub unseen : 1 ≤ number → number ≤ 6 → (r .patches ≡ 0) × (r .candidates ≡ 0) × (r .waiting ≡ 0)
+  -- what an answer holds where there is nothing to tell (the requirements give a refusal its number only): after 1 to
+  -- 6 no patch, after 1 to 9 no trial, after any refusal no place
+  pub unseen : 1 ≤ number → number ≤ 6 → (r .patches ≡ 0) × (r .candidates ≡ 0) × (r .waited ≡ 0)
   pub untried : 1 ≤ number → number ≤ 9 → stageOf r ≡ begun 0 0
   pub nowhere : 1 ≤ number → r .places ≡ noPlaces

@@ -1,5 +1,5 @@
--- `warp_with`: "the reading is the colour that it gives in the capture where the fit's matrix (`apply`) and then its
--- lens (`distort`) take (column + 0.5, row + 0.5)". Assumes nothing.
+-- `warp_with`: [12.7] the reading is the colour that `bilinear` gives in the capture where the fit's matrix (`apply`)
+-- and then its lens (`distort`) take (column + 0.5, row + 0.5). Assumes nothing.
 use Prim.Native.Nat.{ℕ, _*_, _/_, _%_}
 use mathlib.Core.List.{List}
 use Rattle.base.specs.Loops.{filled}

@@ -1,10 +1,11 @@
 // The warp and the tests of `rectify`, for callers that have made theirs.
 use candidates::Lengths;
-use candidates::internal::areas_short;
-use candidates::internal::picture_refused;
+use candidates::tests::areas_short;
+use candidates::tests::picture_refused;
 use fit::GeometryFit;
 use fit_geometry::FitReport;
 use fit_geometry::internal::means_short;
+use float::to_f64;
 use frame::FrameSpec;
 use frame::Point;
 use frame::Rgb;
@@ -30,10 +31,11 @@ fn center(n: usize) -> f64
     requires { ⌜ n < 4096 ⌝ }
     ensures { λ r. ⌜ r ≡ f64 n ⊕ d64 5 10 ⌝ }
 {
-    (n as i64) as f64 + 0.5
+    to_f64(n) + 0.5
 }
 
-// The colour of the canonical pixel in column x and row y: the reading where the fit puts its centre.
+// The colour of the canonical pixel in column x and row y: the reading where the fit puts its
+// centre.
 fn pixel(capture: &[u8], w: usize, h: usize, fit: GeometryFit, x: usize, y: usize) -> Rgb
     requires { ⌜ CaptureHeld (image w h (now capture)) × (x < 4096) × (y < 4096) ⌝ }
     ensures { λ r. ⌜ r ≡ reading (image w h (now (capture .entry))) fit x y ⌝ }

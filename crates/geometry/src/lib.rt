@@ -46,7 +46,8 @@ pub fn warp_with(
     Verdict::Accepted
 }
 
-// Finds the card in a capture and lays it flat. Refusals 1 to 10; refused, the canonical image stays.
+// Finds the card in a capture and lays it flat. Refusals 1 to 10; refused, the canonical image
+// stays.
 pub fn rectify(
     capture: &[u8],
     w: usize,

@@ -11,8 +11,8 @@ use lib.ListN.{length, getD}
 use borrow.Author.Tests.{eq-eqb, ne-eqb}
 use Rattle.base.specs.Loops.{turns, between, table}
 use Rattle.base.proofs.Turns.{turns-each}
-use Rattle.base.proofs.Pick.{pick-yes, pick-no}
-use Rattle.base.proofs.Plane.{le-or-lt}
+use Rattle.base.proofs.Pick.{pick-yes, pick-no, cond-elim}
+use Rattle.base.proofs.Arith.{le-or-lt}
 use Rattle.homography.specs.Arithmetic.{Arithmetic, CommutativeRing, Field}
 use Rattle.homography.specs.Elimination.{Elimination, entry, better, pivotOf, noPivot, swapped, divided, reduceAt, reduced, clearAt, cleared}
 use Rattle.homography.specs.Elimination.{eliminate, eliminated, solvable, lastColumn, solution}
@@ -36,10 +36,6 @@ record Cleaned {A : Type 0} (N : Arithmetic A) (c x : List A) (col n : ℕ) : Ty
   pub before : (r j : ℕ) → j < col → entry N x r j ≡ entry N c r j
   pub gone : (r : ℕ) → r < n → r ≢ col → entry N x r col ≡ N .nought
   pub back : (h : ℕ → A) → EightHold N x h → EightHold N c h
-
-either : (t : Bool) (Q : ℕ → Type 0) (r p : ℕ) → Q r → Q p → Q (cond t r p)
-either true Q r p a b = a
-either false Q r p a b = b
 
 module _ {A : Type 0} (N : Arithmetic A) (F : Field N) where
   open Arithmetic N using (nought as 𝟘, one as 𝟙, plus as _⊞_, times as _⊠_, minus as ⊟_, over, less)
@@ -71,7 +67,8 @@ module _ {A : Type 0} (N : Arithmetic A) (F : Field N) where
   pivot-range a col l =
       let P : ℕ → ℕ → Type 0 = λ k x. (col ≤ x) × (x < col + 1 + k) in
       let t = turns-each (λ k. better N a col (col + 1 + k)) col P (omega arith, omega arith)
-      (λ k x h. either (N .smaller (entry N a x col) (entry N a (col + 1 + k) col)) (P (k + 1)) (col + 1 + k) x (omega arith, omega arith) (h .0, omega (arith, h .1)))
+      (λ k x h. cond-elim (P (k + 1)) (N .smaller (entry N a x col) (entry N a (col + 1 + k) col)) (col + 1 + k) x
+      (λ e. (omega arith, omega arith)) (λ e. (h .0, omega (arith, h .1))))
       (8 - (col + 1)) in
       (t .0, omega (arith, t .1))
 

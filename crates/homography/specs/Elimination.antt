@@ -17,14 +17,14 @@ module _ {A : Type 0} (N : Arithmetic A) where
   abbrev pub entry : List A → ℕ → ℕ → A
   entry a r j = getD a (r * 9 + j) (N .outside)
 
-  -- "the earlier row wins equal pivots": from the row col down, a later row only by a larger absolute value
+  -- [10.2] the earlier row wins equal pivots: from the row col down, a later row only by a larger absolute value
   unfoldable pub better : List A → ℕ → ℕ → ℕ → ℕ
   better a col r p = cond (N .smaller (entry a p col) (entry a r col)) r p
 
   unfoldable pub pivotOf : List A → ℕ → ℕ
   pivotOf a col = between (col + 1) 8 (better a col) col
 
-  -- "an absolute pivot below 1e-12 refuses, a NaN pivot does not"
+  -- [10.2] an absolute pivot below 1e-12 refuses, a NaN pivot does not
   unfoldable pub noPivot : List A → ℕ → Bool
   noPivot a col = N .small (entry a (pivotOf a col) col)
 

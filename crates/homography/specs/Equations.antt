@@ -39,7 +39,7 @@ module _ {A : Type 0} (N : Arithmetic A) where
         ++ rowsOver (src .br) (dst .br)
         ++ rowsOver (src .bl) (dst .bl)
 
-    -- the matrix: the eight unknowns, "with last entry 1"
+    -- [10.1] the matrix: the eight unknowns, with last entry 1
     unfoldable pub homographyOver : Quad → Quad → List A
     homographyOver src dst = solution N (equationsOver src dst) ++ (N .one ∷ [])
 

@@ -76,12 +76,14 @@ same-equivalence = record { refl = λ x. refl; symm = λ x y h. sym h; trans = s
 
 sum-cross :
     (p n d p′ n′ d′ q m e : ℕ) → p * d′ + n′ * d ≡ p′ * d + n * d′
-    → (p * e + q * d) * (d′ * e) + (n′ * e + m * d′) * (d * e) ≡ (p′ * e + q * d′) * (d * e) + (n * e + m * d) * (d′ * e)
+    → (p * e + q * d) * (d′ * e) + (n′ * e + m * d′) * (d * e)
+    ≡ (p′ * e + q * d′) * (d * e) + (n * e + m * d) * (d′ * e)
 sum-cross p n d p′ n′ d′ q m e h = omega (arith, ap (λ (z : ℕ). z * (e * e)) h)
 
 sum-cross-right :
     (p n d q m e q′ m′ e′ : ℕ) → q * e′ + m′ * e ≡ q′ * e + m * e′
-    → (p * e + q * d) * (d * e′) + (n * e′ + m′ * d) * (d * e) ≡ (p * e′ + q′ * d) * (d * e) + (n * e + m * d) * (d * e′)
+    → (p * e + q * d) * (d * e′) + (n * e′ + m′ * d) * (d * e)
+    ≡ (p * e′ + q′ * d) * (d * e) + (n * e + m * d) * (d * e′)
 sum-cross-right p n d q m e q′ m′ e′ h = omega (arith, ap (λ (z : ℕ). z * (d * d)) h)
 
 pub sum-same : (x y x′ y′ : Fraction) → Same x x′ → Same y y′ → Same (sum x y) (sum x′ y′)
@@ -95,12 +97,14 @@ opposite-same x y h = omega arith
 
 left-cross :
     (p n d p′ n′ d′ q m e : ℕ) → p * d′ + n′ * d ≡ p′ * d + n * d′
-    → (p * q + n * m) * (d′ * e) + (p′ * m + n′ * q) * (d * e) ≡ (p′ * q + n′ * m) * (d * e) + (p * m + n * q) * (d′ * e)
+    → (p * q + n * m) * (d′ * e) + (p′ * m + n′ * q) * (d * e)
+    ≡ (p′ * q + n′ * m) * (d * e) + (p * m + n * q) * (d′ * e)
 left-cross p n d p′ n′ d′ q m e h = omega (arith, ap (λ (z : ℕ). z * (q * e)) h, ap (λ (z : ℕ). z * (m * e)) h)
 
 right-cross :
     (p n d q m e q′ m′ e′ : ℕ) → q * e′ + m′ * e ≡ q′ * e + m * e′
-    → (p * q + n * m) * (d * e′) + (p * m′ + n * q′) * (d * e) ≡ (p * q′ + n * m′) * (d * e) + (p * m + n * q) * (d * e′)
+    → (p * q + n * m) * (d * e′) + (p * m′ + n * q′) * (d * e)
+    ≡ (p * q′ + n * m′) * (d * e) + (p * m + n * q) * (d * e′)
 right-cross p n d q m e q′ m′ e′ h = omega (arith, ap (λ (z : ℕ). z * (p * d)) h, ap (λ (z : ℕ). z * (n * d)) h)
 
 pub product-same : (x y x′ y′ : Fraction) → Same x x′ → Same y y′ → Same (product x y) (product x′ y′)

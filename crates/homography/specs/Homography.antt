@@ -31,7 +31,7 @@ entries h i = getD (h .m) i nan
 unfoldable pub rowTimes : Homography → ℕ → Point → Float
 rowTimes h i p = line rounded (entries h) i (p .x) (p .y)
 
--- "`apply` replaces a |w| below 1e-12 by +1e-12"
+-- [10.3] `apply` replaces a |w| below 1e-12 by +1e-12
 unfoldable pub divisor : Float → Float
 divisor w = cond (lt (absOf w) tiny) tiny w
 
@@ -40,14 +40,14 @@ apply h p =
     let w = divisor (rowTimes h 2 p) in
     record { x = rowTimes h 0 p ⊘ w; y = rowTimes h 1 p ⊘ w }
 
--- `mat3_mul`: entry in column j and row i of the product
+-- [13.2] `mat3_mul`: entry in column j and row i of the product
 abbrev pub productAt : List Float → List Float → ℕ → ℕ → Float
 productAt a b j i = at a i 0 ⊗ at b 0 j ⊕ at a i 1 ⊗ at b 1 j ⊕ at a i 2 ⊗ at b 2 j
 
 unfoldable pub mat3Mul : List Float → List Float → List Float
 mat3Mul a b = table (byRow 3 (productAt a b)) 9
 
--- `inverse`: the cofactors, transposed
+-- [13.2] `inverse`: the cofactors, transposed
 abbrev pub minor : List Float → ℕ → ℕ → ℕ → ℕ → ℕ → ℕ → ℕ → ℕ → Float
 minor m a b c d e f g h = at m a b ⊗ at m c d ⊖ at m e f ⊗ at m g h
 
@@ -62,7 +62,7 @@ adjugate m =
 unfoldable pub determinant : List Float → Float
 determinant m = at m 0 0 ⊗ at (adjugate m) 0 0 ⊕ at m 0 1 ⊗ at (adjugate m) 1 0 ⊕ at m 0 2 ⊗ at (adjugate m) 2 0
 
--- "11: `inverse` only: absolute determinant below 1e-12"
+-- [2.11] 11, `inverse` only: the determinant's absolute value is below 1e-12
 unfoldable pub singular : List Float → Bool
 singular m = lt (absOf (determinant m)) tiny
 
@@ -75,7 +75,7 @@ inverse h =
     (record { verdict = Refused 11; h = identity })
     (record { verdict = Accepted; h = record { m = quotients (adjugate (h .m)) (determinant (h .m)) } })
 
--- `rms_error`
+-- [13.2] `rms_error`
 abbrev pub apart : Point → Point → Float
 apart p q = squared (p .x ⊖ q .x) ⊕ squared (p .y ⊖ q .y)
 

@@ -47,8 +47,8 @@ module _ {A : Type 0} (N : Arithmetic A) where
         Takes (src .tl) (dst .tl) × Takes (src .tr) (dst .tr)
         × Takes (src .br) (dst .br) × Takes (src .bl) (dst .bl)
 
--- "The eight equations are the direct linear transform with last entry 1": over exact numbers, of the 72 entries of
--- the equations, the eight rows hold for a matrix with last entry 1 exactly when it takes each source to its own
+-- [10.1] the eight equations are the direct linear transform with last entry 1: over exact numbers, of the 72 entries
+-- of the equations, the eight rows hold for a matrix with last entry 1 exactly when it takes each source to its own
 -- target. num reads a coordinate. proofs/Transform shows it.
 abbrev pub TransformIs : Type 1
 TransformIs =
@@ -114,7 +114,8 @@ abbrev pub LaidOutByRows : Type 1
 LaidOutByRows =
     (A : Type 0) (N : Arithmetic A) (num : Float → A) (src dst : Quad)
     → ((i : ℕ) → i < 8
-    → getD (homographyOver N num src dst) i (N .outside) ≡ getD (solution N (equationsOver N num src dst)) i (N .outside))
+    → getD (homographyOver N num src dst) i (N .outside)
+    ≡ getD (solution N (equationsOver N num src dst)) i (N .outside))
     × (getD (homographyOver N num src dst) 8 (N .outside) ≡ N .one)
 
 -- ---- The float equations have the values of the exact ones

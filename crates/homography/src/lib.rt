@@ -6,9 +6,9 @@
 //     [ Y ] = [ h3 h4 h5 ] [ y ],    u = X / W,   v = Y / W.
 //     [ W ]   [ h6 h7 h8 ] [ 1 ]
 //
-// Only the ratios of the nine entries matter, so the last is set to 1, and eight are left. (A matrix
-// whose last entry is 0 takes the origin to infinity, and is not found this way.) A point whose
-// image is known gives two equations. Multiply u = X / W and v = Y / W by W:
+// Only the ratios of the nine entries matter, so the last is set to 1, and eight are left. (A
+// matrix whose last entry is 0 takes the origin to infinity, and is not found this way.) A point
+// whose image is known gives two equations. Multiply u = X / W and v = Y / W by W:
 //
 //     h0 x + h1 y + h2 = u (h6 x + h7 y + 1)
 //     h3 x + h4 y + h5 = v (h6 x + h7 y + 1)
@@ -18,13 +18,14 @@
 //     [ x  y  1  0  0  0  -u x  -u y ] h = u
 //     [ 0  0  0  x  y  1  -v x  -v y ] h = v.
 //
-// Four points give eight rows: the direct linear transform with last entry 1 (Hartley and Zisserman,
-// Multiple View Geometry, 4.1). The rows, the elimination and the lines of the matrix are defined once,
-// over any arithmetic. The contracts cite them over f64, where every result is rounded, and say what
-// comes out to the bit. specs/Transform cites them over exact numbers, among them the rationals, of
-// which every finite f64 is one: there the eight rows hold exactly when the matrix takes each point to
-// its own target, and the matrix that the elimination gives, where it refuses no pivot, does so.
-// proofs/Image shows that no entry of the rows is rounded where the coordinates are whole and small.
+// Four points give eight rows: the direct linear transform with last entry 1 (Hartley and
+// Zisserman, Multiple View Geometry, 4.1). The rows, the elimination and the lines of the matrix
+// are defined once, over any arithmetic. The contracts cite them over f64, where every result is
+// rounded, and say what comes out to the bit. specs/Transform cites them over exact numbers, among
+// them the rationals, of which every finite f64 is one: there the eight rows hold exactly when the
+// matrix takes each point to its own target, and the matrix that the elimination gives, where it
+// refuses no pivot, does so. proofs/Image shows that no entry of the rows is rounded where the
+// coordinates are whole and small.
 mod solve;
 
 use frame::Point;
@@ -64,7 +65,8 @@ pub struct Homography {
     pub m: [f64; 9],
 }
 
-// What from_points and inverse give: the matrix beside the enum, and the identity where it is refused.
+// What from_points and inverse give: the matrix beside the enum, and the identity where it is
+// refused.
 pub struct Solved {
     pub verdict: Verdict,
     pub h: Homography,

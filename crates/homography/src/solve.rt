@@ -7,7 +7,8 @@ ghost use Rattle.homography.specs.Elimination.{pivotOf, swapped, divided
 ghost use Rattle.homography.specs.Inner.{unknowns};
 
 // The row, from col down, whose entry in the column has the largest absolute value; the earlier of
-// equals. A NaN is neither larger nor smaller, so it stays where it stands first and is else passed by.
+// equals. A NaN is neither larger nor smaller, so it stays where it stands first and is else passed
+// by.
 fn pivot(a: &[f64; 72], col: usize) -> usize
     requires { ⌜ col < 8 ⌝ }
     ensures { λ r. ⌜ (r ≡ pivotOf rounded (now (a .entry)) col) × (r < 8) ⌝ }

@@ -1,4 +1,4 @@
--- Document 01's marked examples M1 to M6, by computation. Assumes nothing.
+-- The marked examples M1 to M6, by computation. Assumes nothing.
 use mathlib.Core.Path.{_≡_, refl}
 use Prim.Native.Nat.{ℕ}
 use lib.Ieee.{Float, ofInt, add, sub, div}

@@ -13,7 +13,7 @@ use Rattle.float.specs.Floats.{_⊕_}
 use Rattle.frame.specs.Image.{image, px, inRect, withRect}
 use Rattle.frame.specs.declared.FrameSpec.{FrameSpec}
 use Rattle.frame.specs.declared.Rgb.{Rgb}
-use Rattle.frame.proofs.Tests.{and-left, and-right, and-both, same-test}
+use Rattle.base.proofs.Tests.{and-left, and-right, and-both, same-test}
 use Rattle.frame.proofs.Pixels.{Shows, filled-shows, shows-filled}
 use Rattle.frame.proofs.Rectangles.{rect-within, within-rect, painted-length, painted-shows}
 use Rattle.markers.specs.Stamp.{Square, end, covers, painted, withSquares, squares, stamped}

@@ -7,7 +7,7 @@ use lib.Dec.{leb, ltb}
 use borrow.Author.Tests.{ltb-false}
 use Rattle.frame.specs.Refusals.{side, cellHeld, frameOutside}
 use Rattle.frame.specs.declared.FrameSpec.{FrameSpec}
-use Rattle.frame.proofs.Tests.{or-left, or-right}
+use Rattle.base.proofs.Tests.{or-left, or-right}
 use Rattle.markers.specs.Layout.{markerSize, quietZone, marginFor, marker, noLayout, origins, layoutOf}
 use Rattle.markers.specs.declared.internal.Markers.{Markers}
 use Rattle.markers.specs.declared.internal.Layout.the-variants as L

@@ -1,4 +1,4 @@
--- The answer of `marker_centers`: document 01's number and values for each case. Assumes nothing.
+-- The answer of `marker_centers`: its number (requirements, 2) and values for each case. Assumes nothing.
 use Prim.Native.Nat.{ℕ, zero, suc}
 use mathlib.Core.List.{List}
 use Rattle.float.specs.Floats.{f64}
@@ -26,6 +26,6 @@ unfoldable pub centersAs : ℕ → Quad → Centers
 centersAs zero q = Are q
 centersAs (suc n) q = Refused (suc n)
 
--- "The lowest number that applies is given", and else the centres
+-- [2.12] the lowest number that applies, and else the centres
 unfoldable pub centersFor : List Check → Quad → Centers
 centersFor tests q = centersAs (lowestOf tests) q

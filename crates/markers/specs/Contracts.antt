@@ -10,9 +10,9 @@ use Rattle.markers.specs.Stamp.{stamped}
 use Rattle.frame.specs.declared.FrameSpec.{FrameSpec}
 use Rattle.frame.specs.declared.Verdict.{Verdict}
 
--- ---- "each call makes the checks that concern what it is handed"
+-- ---- [2.13] each call makes the checks that concern what it is handed
 
--- `marker_size`, `quiet_zone`, `margin_for`: "a lone cell is a frame number"
+-- `marker_size`, `quiet_zone`, `margin_for`: [2.13] a lone cell is a frame number
 unfoldable pub cellTests : ℕ → List Check
 cellTests cell = check 1 (not (cellHeld cell)) ∷ []
 
@@ -20,7 +20,7 @@ cellTests cell = check 1 (not (cellHeld cell)) ∷ []
 unfoldable pub layoutTests : FrameSpec → List Check
 layoutTests f = check 1 (frameOutside f) ∷ check 5 (noLayout f) ∷ []
 
--- `stamp_fiducials`: "its image is checked as a capture"
+-- `stamp_fiducials`: [13.1] its image is checked as a capture
 unfoldable pub stampTests : Image → FrameSpec → List Check
 stampTests img f = check 1 (frameOutside f) ∷ check 2 (captureWrong img) ∷ check 5 (noLayout f) ∷ []
 

@@ -1,4 +1,4 @@
--- Markers and their layout (document 01, "Frame and layout"). Assumes nothing.
+-- Markers and their layout (requirements, 5). Assumes nothing.
 use Prim.Native.Nat.{ℕ, _+_, _*_, _-_, _/_, min, max}
 use mathlib.Core.Bool.{Bool, cond, _||_}
 use lib.Dec.{ltb}
@@ -10,15 +10,15 @@ use Rattle.frame.specs.declared.Quad.{Quad}
 use Rattle.markers.specs.declared.internal.Layout.{Layout}
 use Rattle.markers.specs.declared.internal.Layout.the-variants as L
 
--- "marker = 8·cell held to 72..96"
+-- [5.1] marker = 8·cell held to 72..96
 unfoldable pub markerSize : ℕ → ℕ
 markerSize cell = max 72 (min 96 (8 * cell))
 
--- "quiet = marker/6 (whole division)"
+-- [5.1] quiet = marker/6, whole division
 unfoldable pub quietZone : ℕ → ℕ
 quietZone cell = markerSize cell / 6
 
--- "margin = marker + 2·quiet"
+-- [5.1] margin = marker + 2·quiet
 unfoldable pub marginFor : ℕ → ℕ
 marginFor cell = markerSize cell + 2 * quietZone cell
 
@@ -26,11 +26,11 @@ marginFor cell = markerSize cell + 2 * quietZone cell
 unfoldable pub frameSpec : ℕ → ℕ → ℕ → FrameSpec
 frameSpec width height cell = record { width = width; height = height; cell = cell; margin = marginFor cell }
 
--- "`marker_layout` takes m = margin − 2·quiet"
+-- [5.2] `marker_layout` takes m = margin − 2·quiet
 unfoldable pub marker : FrameSpec → ℕ
 marker f = f .margin - 2 * quietZone (f .cell)
 
--- "and is None exactly when margin < 2·quiet, m < 24, or a side < 4·margin"
+-- [2.5, 5.2] .. and is None exactly when margin < 2·quiet, m < 24, or a side < 4·margin
 unfoldable pub noLayout : FrameSpec → Bool
 noLayout f =
     ltb (f .margin) (2 * quietZone (f .cell)) || ltb (marker f) 24 || ltb (f .width) (4 * f .margin)
@@ -56,7 +56,7 @@ origins f =
 unfoldable pub layoutOf : FrameSpec → Layout
 layoutOf f = cond (noLayout f) L.None (L.Is (record { m = f64 (marker f); origins = origins f }))
 
--- "Centres run TL, TR, BR, BL": half a marker further
+-- [5.3] centres run TL, TR, BR, BL: half a marker further
 abbrev pub moved : Float → Point → Point
 moved d p = record { x = p .x ⊕ d; y = p .y ⊕ d }
 

@@ -26,7 +26,7 @@ square x y side c = record { x = x; y = y; side = side; colour = c }
 abbrev pub end : Float → ℕ
 end t = asUsize (maxOf (roundOf t) (f64 0))
 
--- the square covers the pixel in column x and row y ("clipped to the picture": only pixels of the picture are asked)
+-- the square covers the pixel in column x and row y ([13.1] clipped to the picture: only its pixels are asked)
 unfoldable pub covers : Square → ℕ → ℕ → Bool
 covers s x y = leb (end (s .x)) x && ltb x (end (s .x ⊕ s .side)) && leb (end (s .y)) y && ltb y (end (s .y ⊕ s .side))
 

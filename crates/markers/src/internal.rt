@@ -2,6 +2,9 @@
 // functions.
 use super::MARKER_MAX_PX;
 use super::MARKER_MIN_PX;
+use base::max;
+use base::min;
+use base::saturating_sub;
 use frame::FrameSpec;
 use frame::Point;
 use frame::Quad;
@@ -15,14 +18,7 @@ pub fn marker_size(cell: usize) -> usize
     requires { ⌜ cell ≤ 512 ⌝ }
     ensures { λ r. ⌜ r ≡ markerSize cell ⌝ }
 {
-    let size = 8 * cell;
-    if size < MARKER_MIN_PX {
-        return MARKER_MIN_PX;
-    }
-    if size > MARKER_MAX_PX {
-        return MARKER_MAX_PX;
-    }
-    size
+    max(MARKER_MIN_PX, min(MARKER_MAX_PX, 8 * cell))
 }
 
 pub fn quiet_zone(cell: usize) -> usize
@@ -44,11 +40,7 @@ pub fn marker(frame: FrameSpec) -> usize
     requires { ⌜ FrameHeld frame ⌝ }
     ensures { λ r. ⌜ r ≡ marker frame ⌝ }
 {
-    let twice = 2 * quiet_zone(frame.cell);
-    if frame.margin < twice {
-        return 0;
-    }
-    frame.margin - twice
+    saturating_sub(frame.margin, 2 * quiet_zone(frame.cell))
 }
 
 // Refusal 5.

@@ -1,5 +1,6 @@
 // Painting the markers: sixteen squares, a later one over an earlier one.
 use super::MARKER_UNITS;
+use base::saturating_sub;
 use frame::BLACK;
 use frame::Quad;
 use frame::Rgb;
@@ -16,12 +17,6 @@ fn end(t: f64) -> usize
     ensures { λ r. ⌜ r ≡ end t ⌝ }
 {
     float::to_usize(float::max(float::round(t), 0.0))
-}
-
-fn saturating_sub(a: usize, b: usize) -> usize
-    ensures { λ r. ⌜ r ≡ a - b ⌝ }
-{
-    if a < b { 0 } else { a - b }
 }
 
 pub fn fill(bytes: &mut [u8], w: usize, h: usize, x: f64, y: f64, width: f64, height: f64, c: Rgb)

@@ -1,8 +1,10 @@
 // The integral, the mean over a box and the adaptive black mask. Crates above call `planes` alone,
 // once refusals 1 to 6 are ruled out.
+use base::max;
+use base::min;
+use base::saturating_sub;
+use float::to_f64;
 use frame::FrameSpec;
-use sampling::internal::min;
-use sampling::internal::to_f64;
 ghost use mathlib.Core.Path.{_≡_};
 ghost use mathlib.Core.Bool.{cond};
 ghost use mathlib.Core.List.{List};
@@ -60,18 +62,6 @@ fn integral_plane(luma: &[f32], w: usize, h: usize, integral: &mut [f64])
     }
 }
 
-fn minus(x: usize, y: usize) -> usize
-    ensures { λ r. ⌜ r ≡ x - y ⌝ }
-{
-    if x < y { 0 } else { x - y }
-}
-
-fn max(x: usize, y: usize) -> usize
-    ensures { λ r. ⌜ r ≡ Prim.Native.Nat.max x y ⌝ }
-{
-    if x < y { y } else { x }
-}
-
 // The mean luma of the box around column x and row y, clipped at the picture.
 fn box_mean(integral: &[f64], w: usize, h: usize, radius: usize, x: usize, y: usize) -> f32
     requires { ⌜ (w ≤ 4096) × (h ≤ 4096) × (radius ≤ 4096) × (x < w) × (y < h)
@@ -79,9 +69,9 @@ fn box_mean(integral: &[f64], w: usize, h: usize, radius: usize, x: usize, y: us
     ensures { λ r. ⌜ r ≡ boxMean (entryAt (now (integral .entry)) w) w h radius x y ⌝ }
 {
     let s = w + 1;
-    let x0 = minus(x, radius);
+    let x0 = saturating_sub(x, radius);
     let x1 = min(w, x + radius + 1);
-    let y0 = minus(y, radius);
+    let y0 = saturating_sub(y, radius);
     let y1 = min(h, y + radius + 1);
     let a = y1 * s + x1;
     let b = y0 * s + x1;

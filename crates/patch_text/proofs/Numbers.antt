@@ -2,19 +2,18 @@
 use Prim.Native.Nat.{ℕ, zero, suc, _+_, _-_, _*_, _/_, _%_, _^_, _≤_, _<_}
 use native.Mathlib.Nat.{pow-suc, pow-zero}
 use Rattle.base.specs.Loops.{table}
-use Rattle.blobs.proofs.Records.{table-more, length-table}
 use native.Mathlib.Omega.{arith}
 use mathlib.Core.Path.{_≡_, sym, ap, ap₂, subst, _∙_}
-use mathlib.Core.List.{List, [], _∷_, _++_, append-assoc}
+use mathlib.Core.List.{List, [], _∷_, _++_, append-assoc, append-nil}
 use lib.Dec.{ltb}
 use borrow.Author.Tests.{lt-ltb, le-ltb}
 use Rattle.base.proofs.Pick.{pick-yes, pick-no}
+use Rattle.base.proofs.Table.{table-more, length-table}
 use Rattle.blobs.specs.declared.Blob.{Blob}
 use native.Mathlib.Nat.{add-zero}
 use native.Mathlib.Numerals.{add-one}
 use lib.ListN.{length, getD, set, take, drop, length-set, length-drop, drop-of-length-le}
 use lib.Seq.{take-all, take-suc, take-suc-set, drop-cons, drop-set-lt, getD-set-same}
-use Rattle.blobs.proofs.Parts.{append-none}
 use Rattle.patch_text.specs.Text.{blank, feed, spelled, decimal, field, recordLine, recordLines, patchText}
 use Rattle.patch_text.specs.Steps.{Written}
 
@@ -44,7 +43,7 @@ pub digits-none : (n : ℕ) (d : List ℕ) → length d ≡ 20 → n < 2 ^ 64 �
 unfolding decimal
 digits-none n d e l =
     record {
-      text = ap (λ x. spelled 20 n ++ x) (drop-of-length-le d {i = 20} (omega arith)) ∙ append-none (spelled 20 n);
+      text = ap (λ x. spelled 20 n ++ x) (drop-of-length-le d {i = 20} (omega arith)) ∙ append-nil (spelled 20 n);
       some = omega arith;
       room = omega arith;
       within = omega arith;
@@ -84,7 +83,7 @@ digits-last n d (suc k) rest l h =
 -- ---- lines
 pub lines-more : (l : List Blob) (b : Blob) → recordLines (l ++ (b ∷ [])) ≡ recordLines l ++ recordLine b
 unfolding recordLines
-lines-more [] b = append-none (recordLine b)
+lines-more [] b = append-nil (recordLine b)
 lines-more (x ∷ l) b = ap (λ t. recordLine x ++ t) (lines-more l b) ∙ sym (append-assoc (recordLine x) (recordLines l) (recordLine b))
 
 -- ---- what was written up to a place is still there
@@ -98,7 +97,7 @@ written-more o o₁ o₂ at r s k j t u a b =
 
 -- ---- a copy, one byte after another
 pub copy-none : (o b : List ℕ) (at : ℕ) → take (at + 0) o ≡ take at o ++ take 0 b
-copy-none o b at = ap (λ n. take n o) (add-zero at) ∙ sym (append-none (take at o))
+copy-none o b at = ap (λ n. take n o) (add-zero at) ∙ sym (append-nil (take at o))
 
 pub copy-more : (o o₁ b : List ℕ) (at i : ℕ) → i < length b → at + i < length o₁ → take (at + i) o₁ ≡ take at o ++ take i b
     → take (at + (i + 1)) (set o₁ (at + i) (getD b i 0)) ≡ take at o ++ take (i + 1) b
@@ -131,7 +130,7 @@ put-is o o₁ d at end n after l e ee f de =
 -- ---- the records' lines
 pub written-none : (o : List ℕ) (at : ℕ) (f : ℕ → Blob) → Written o o at at 0 (recordLines (table f 0))
 unfolding recordLines table
-written-none o at f = record { text = sym (append-none (take at o)); from = omega arith; to = omega arith }
+written-none o at f = record { text = sym (append-nil (take at o)); from = omega arith; to = omega arith }
 
 pub written-line : (o o₁ o₂ : List ℕ) (at r s j : ℕ) (f : ℕ → Blob) (b : Blob) → b ≡ f j → Written o o₁ at r (147 * j) (recordLines
     (table f j)) → Written o₁ o₂ r s 147 (recordLine b)

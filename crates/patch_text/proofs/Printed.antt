@@ -1,4 +1,4 @@
--- Document 01's printed example (M7), and M8, as texts: the definitions give exactly these bytes. Assumes nothing.
+-- The printed example (requirements, 15.2; M7), and M8, as texts: the definitions give exactly these bytes. Assumes nothing.
 use mathlib.Core.Path.{_≡_, refl}
 use mathlib.Core.List.{[], _∷_}
 use Rattle.base.specs.Loops.{table, byRow}

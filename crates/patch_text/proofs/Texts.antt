@@ -16,10 +16,9 @@ use borrow.Author.Tests.{eqb-true, eq-eqb, ne-eqb, le-leb}
 use Rattle.base.specs.Loops.{table, byRow, filled}
 use Rattle.base.proofs.Plane.{length-filled, filled-at}
 use Rattle.frame.specs.Refusals.{side, sidesWrong}
-use Rattle.base.proofs.Pick.{pick-yes, pick-no}
-use Rattle.frame.proofs.Tests.{and-left, and-right, and-both, or-cases}
-use Rattle.blobs.proofs.Records.{table-at, length-table}
-use Rattle.blobs.proofs.Steps.{cond-elim}
+use Rattle.base.proofs.Pick.{pick-yes, pick-no, cond-elim}
+use Rattle.base.proofs.Tests.{and-left, and-right, and-both, or-cases}
+use Rattle.base.proofs.Table.{table-at, length-table}
 use Rattle.patch_text.specs.Text.{hash, dot, feed, letter, byteAt, maskText, Reads}
 use Rattle.patch_text.specs.Steps.{FirstFeed, closedLength, placed, placedAt, all, pixelOf, pixelAt, Measured}
 

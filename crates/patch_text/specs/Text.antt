@@ -1,4 +1,4 @@
--- What the program `patches` reads and prints (document 01, "Patches"). Assumes nothing.
+-- What the program `patches` reads and prints (requirements, 7.6 and 7.7). Assumes nothing.
 use Prim.Native.Nat.{ℕ, zero, suc, _+_, _*_, _/_, _%_, _≤_}
 use mathlib.Core.Path.{_≡_}
 use mathlib.Core.Bool.{cond}
@@ -23,7 +23,7 @@ feed = 10
 abbrev pub blank : ℕ
 blank = 32
 
--- ---- a mask: "lines of `#` (dark) and `.` of equal length"
+-- ---- a mask: [7.6] lines of `#` (dark) and `.` of equal length
 
 unfoldable pub letter : ℕ → ℕ
 letter zero = dot
@@ -36,7 +36,8 @@ byteAt w m x y = cond (eqb x w) feed (letter (getD m (y * w + x) 0))
 unfoldable pub maskText : ℕ → ℕ → List ℕ → List ℕ
 maskText w h m = table (byRow (w + 1) (byteAt w m)) (h * (w + 1))
 
--- the text b is the mask m of w by h, 1 where dark and 0 elsewhere: "at most 64 by 64"; an empty text or line is none
+-- the text b is the mask m of w by h, 1 where dark and 0 elsewhere: [7.6] at most 64 by 64; an empty text or line is
+-- none
 pub record Reads (b : List ℕ) (w h : ℕ) (m : List ℕ) : Type 0 where
   pub wide : 1 ≤ w
   pub narrow : w ≤ 64
@@ -44,7 +45,7 @@ pub record Reads (b : List ℕ) (w h : ℕ) (m : List ℕ) : Type 0 where
   pub low : h ≤ 64
   pub long : length m ≡ w * h
   pub flags : (q : ℕ) → getD m q 0 ≤ 1
-  -- "Each input line ends in a line feed, which the last may lack"
+  -- [7.7] each input line ends in a line feed, which the last may lack
   pub text : (b ≡ maskText w h m) ⊎ (b ++ (feed ∷ []) ≡ maskText w h m)
 
 -- ---- numbers, with no zero in front
@@ -61,9 +62,9 @@ decimal n = spelled 20 n
 unfoldable pub field : ℕ → ℕ → List ℕ
 field n after = decimal n ++ (after ∷ [])
 
--- ---- the patch list: "width, height, number of patches, then one record a line"; "each printed line ends in" a line feed
+-- ---- [7.6] width, height, number of patches, then one record a line; [7.7] each printed line ends in a line feed
 
--- "area, sum of x, sum of y, and box x0, y0, x1, y1"
+-- [7.3] area, sum of x, sum of y and the box x0, y0, x1, y1
 unfoldable pub recordLine : Blob → List ℕ
 recordLine b =
     field (b .area) blank ++ field (b .sx) blank ++ field (b .sy) blank ++ field (b .x0) blank ++ field (b .y0) blank
@@ -76,7 +77,7 @@ recordLines (b ∷ l) = recordLine b ++ recordLines l
 unfoldable pub patchText : ℕ → ℕ → List Blob → List ℕ
 patchText w h l = field w blank ++ field h blank ++ field (length l) feed ++ recordLines l
 
--- "prints only `refused 2`"
+-- [7.7] .. prints only `refused 2`
 abbrev pub refusedText : List ℕ
 refusedText = 114 ∷ 101 ∷ 102 ∷ 117 ∷ 115 ∷ 101 ∷ 100 ∷ 32 ∷ 50 ∷ 10 ∷ []
 

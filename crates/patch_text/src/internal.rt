@@ -14,7 +14,8 @@ pub const INPUT_LENGTH: usize = 64 * 65 + 1;
 pub const OUTPUT_LENGTH: usize = 3 * 21 + 2048 * 147;
 
 // Puts at the start of `out` what a program prints for its input, and answers how many bytes that
-// is. The program has read `n` bytes of the input into the start of `input`: as many as fit, or all.
+// is. The program has read `n` bytes of the input into the start of `input`: as many as fit, or
+// all.
 pub fn answer(input: &[u8; INPUT_LENGTH], n: usize, out: &mut [u8; OUTPUT_LENGTH]) -> usize
     requires { ⌜ n ≤ length (now input) ⌝ }
     ensures { λ r. ⌜ AnsweredWhole (now (input .entry)) n (take r (now (out .exit))) ⌝ }

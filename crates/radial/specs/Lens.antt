@@ -1,4 +1,4 @@
--- Radial (document 01, "Homography and lens"). Assumes nothing.
+-- Radial (requirements, 10.4 and 10.5). Assumes nothing.
 use mathlib.Core.Bool.{cond}
 use Prim.Native.Nat.{ℕ, zero, suc}
 use lib.Ieee.{Float, lt, eq}
@@ -10,7 +10,7 @@ use Rattle.radial.specs.declared.Radial.{Radial}
 use Rattle.radial.specs.declared.Lens.{Lens}
 use Rattle.radial.specs.declared.Lens.the-variants.{Is, Refused}
 
--- the lens term k about the centre of a picture w by h; norm is half the diagonal, at least 1
+-- [10.4] the lens term k about the centre of a picture w by h; norm is half the diagonal, at least 1
 unfoldable pub radial : ℕ → ℕ → Float → Radial
 radial w h k =
     let cx = f64 w ⊘ f64 2 in
@@ -34,7 +34,7 @@ unfoldable pub lensAs : ℕ → Radial → Lens
 lensAs zero l = Is l
 lensAs (suc n) l = Refused (suc n)
 
--- "The lowest number that applies is given", and else the lens
+-- [2.12] the lowest number that applies, and else the lens
 unfoldable pub newLens : ℕ → ℕ → Float → Lens
 newLens w h k = lensAs (lowestOf (sideTests w h)) (radial w h k)
 
@@ -49,7 +49,7 @@ distort l p =
     let f = f64 1 ⊕ l .k ⊗ r2 in
     cond (eq (l .k) (f64 0)) p (record { x = l .cx ⊕ dx ⊗ f; y = l .cy ⊕ dy ⊗ f })
 
--- Newton's steps on u + k·u³ = rd: "at most six Newton steps, left early when |dg| < 1e-12"
+-- [10.5] Newton's steps on u + k·u³ = rd: at most six, left early when |dg| < 1e-12
 unfoldable pub newton : ℕ → Float → Float → Float → Float
 newton zero k rd u = u
 newton (suc n) k rd u =
@@ -57,7 +57,7 @@ newton (suc n) k rd u =
     let dg = f64 1 ⊕ f64 3 ⊗ k ⊗ u ⊗ u in
     cond (lt (absOf dg) tiny) u (newton n k rd (u ⊖ g ⊘ dg))
 
--- observed point to pinhole point: "returns p when k = 0 or rd < 1e-12"
+-- [10.5] observed point to pinhole point: p itself when k = 0 or rd < 1e-12
 unfoldable pub undistort : Radial → Point → Point
 undistort l p =
     let dx = p .x ⊖ l .cx in

@@ -1,7 +1,7 @@
 // Radial (barrel and pincushion) distortion with one parameter, about the picture's centre.
 //
-// A lens moves a point along the ray from the centre. With r the distance of the pinhole's point and
-// rd that of the observed one, both in units of norm (half the picture's diagonal),
+// A lens moves a point along the ray from the centre. With r the distance of the pinhole's point
+// and rd that of the observed one, both in units of norm (half the picture's diagonal),
 //
 //     rd = r (1 + k r^2)
 //
@@ -11,8 +11,8 @@
 //     u - g(u) / g'(u),    g'(u) = 1 + 3 k u^2,
 //
 // and divides by 1 + k u^2. Where k < 0, g rises only up to u = 1 / sqrt(-3 k): a point observed
-// further out than rd = 2 / (3 sqrt(-3 k)), 0.861 at k = -0.2, has no preimage nearby, and the steps
-// wander (docs/DIFFERENCES.md).
+// further out than rd = 2 / (3 sqrt(-3 k)), 0.861 at k = -0.2, has no preimage nearby, and the
+// steps wander (docs/DIFFERENCES.md).
 pub mod internal;
 
 use frame::Point;
@@ -49,7 +49,8 @@ fn newton(k: f64, rd: f64) -> f64
 }
 
 impl Radial {
-    // The lens term k about the centre of a picture w by h; refusal 2 for a side outside 1 to 4,096.
+    // The lens term k about the centre of a picture w by h; refusal 2 for a side outside 1 to
+    // 4,096.
     pub fn new(w: usize, h: usize, k: f64) -> Lens
         ensures { λ r. ⌜ r ≡ model.newLens w h k ⌝ }
     {

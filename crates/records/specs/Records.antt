@@ -1,4 +1,4 @@
--- Lists of records ("Patch and candidate lists become lent slices of records", document 01). Assumes nothing.
+-- Patch and candidate lists as lent slices of records (requirements, 16.8). Assumes nothing.
 use Prim.Native.Nat.{ℕ}
 use mathlib.Core.List.{List}
 use lib.ListN.{getD}

@@ -9,12 +9,13 @@ use lib.Dec.{T, ltb, ltb→lt, lit<}
 use lib.IntN.{pos}
 use lib.Ieee.{low, emax, prec, Float, nan, inf, fin, Format, binary64, up, down, round, sum, sub, ofInt, lt, toUnsigned, odd, units}
 use lib.Ieee.Exact.{HasValue}
-use lib.Ieee.Back.{round-whole, unsigned-back}
+use lib.Ieee.Back.{unsigned-back}
 use lib.Ieee.Fits.{down-pos, round-is}
 use lib.Ieee.Scale.{round-same}
 use Rattle.base.proofs.Floats.{held64}
-use Rattle.float.specs.Floats.{_⊖_, f64, d64, asUsize, clampOf}
-use Rattle.sampling.specs.Reading.{held, floorOf, neighboursOf}
+use Rattle.float.specs.Floats.{_⊖_, f64, d64, floorOf, asUsize, clampOf}
+use Rattle.float.proofs.Numbers.{f64-value}
+use Rattle.sampling.specs.Reading.{held, neighboursOf}
 
 -- ---- n - 1 is exact
 
@@ -46,11 +47,6 @@ less-one (fin false m e) k v =
 one-is : f64 1 ≡ fin false 1 (pos 0)
 unfolding ofInt
 one-is = refl
-
--- a whole number's value
-pub f64-value : (n : ℕ) → n ≤ 2 ^ 53 → HasValue (f64 n) false n 1
-unfolding ofInt
-f64-value n h = round-whole binary64 false n h
 
 as-round : (n : ℕ) → f64 n ≡ round binary64 false n 1
 unfolding ofInt

@@ -1,5 +1,5 @@
--- The answer of `bilinear`: document 01's number and value for each case, and the answer that its tests and value
--- give. Assumes nothing.
+-- The answer of `bilinear`: its number (requirements, 2) and value for each case, and the answer that its tests and
+-- value give. Assumes nothing.
 use Prim.Native.Nat.{ℕ, zero, suc}
 use mathlib.Core.List.{List}
 use Rattle.frame.specs.Image.{black}
@@ -23,6 +23,6 @@ unfoldable pub colourAs : ℕ → Rgb → Colour
 colourAs zero c = Is c
 colourAs (suc n) c = Refused (suc n)
 
--- "The lowest number that applies is given", and else the colour
+-- [2.12] the lowest number that applies, and else the colour
 unfoldable pub colourFor : List Check → Rgb → Colour
 colourFor tests c = colourAs (lowestOf tests) c

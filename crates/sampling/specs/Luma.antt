@@ -1,4 +1,4 @@
--- Luma (document 01, "Mask"). Assumes nothing.
+-- Luma (requirements, 6.1). Assumes nothing.
 use Prim.Native.Nat.{ℕ, _+_, _*_}
 use mathlib.Core.List.{List}
 use lib.Ieee.{Float, binary32, add, mul}
@@ -6,7 +6,7 @@ use Rattle.base.specs.Loops.{table}
 use Rattle.float.specs.Floats.{f32, d32}
 use Rattle.frame.specs.Image.{Image, byteAt}
 
--- "Luma is f32: 0.299·r + 0.587·g + 0.114·b, left to right"
+-- [6.1] luma is f32: 0.299·r + 0.587·g + 0.114·b, left to right
 unfoldable pub lumaOf : ℕ → ℕ → ℕ → Float
 lumaOf r g b =
     add binary32 (add binary32 (mul binary32 (d32 299 1000) (f32 r)) (mul binary32 (d32 587 1000) (f32 g)))

@@ -1,8 +1,7 @@
 -- `bilinear`, which truncates. Where a reading is taken and its colour are separate definitions. Assumes nothing.
-use Prim.Native.Nat.{ℕ, _+_, _-_, _*_, _/_, min}
-use mathlib.Core.Bool.{true, false}
-use lib.Ieee.{Float, nan, inf, fin, binary64, up, down, round}
-use Rattle.float.specs.Floats.{_⊕_, _⊖_, _⊗_, f64, d64, asU8, asUsize, clampOf}
+use Prim.Native.Nat.{ℕ, _+_, _-_, min}
+use lib.Ieee.{Float}
+use Rattle.float.specs.Floats.{_⊕_, _⊖_, _⊗_, f64, d64, floorOf, asU8, asUsize, clampOf}
 use Rattle.frame.specs.Image.{Image, px}
 use Rattle.frame.specs.declared.Point.{Point}
 use Rattle.frame.specs.declared.Rgb.{Rgb}
@@ -13,13 +12,6 @@ use Rattle.sampling.specs.declared.Neighbours.{Neighbours}
 -- a coordinate in a side of n pixels, from the first pixel's centre, held to the last one's; a NaN stays
 abbrev pub held : ℕ → Float → Float
 held n t = clampOf (f64 0) (f64 n ⊖ f64 1) (t ⊖ d64 5 10)
-
--- `floor`, exact: the whole number at x or next below it
-unfoldable pub floorOf : Float → Float
-floorOf nan = nan
-floorOf (inf s) = inf s
-floorOf (fin false m e) = round binary64 false (m * up e / down e) 1
-floorOf (fin true m e) = round binary64 true ((m * up e + (down e - 1)) / down e) 1
 
 unfoldable pub neighboursOf : ℕ → Float → Neighbours
 neighboursOf n t =

@@ -1,12 +1,13 @@
 // What the layers above call without the public functions' tests.
 use crate::Neighbours;
+use base::min;
+use float::to_f64;
 use frame::Point;
 use frame::Rgb;
 ghost use mathlib.Core.Path.{_≡_};
-ghost use Prim.Native.Nat.{_+_, _*_, _-_, _^_, _<_, _≤_};
+ghost use Prim.Native.Nat.{_*_, _≤_};
 ghost use lib.ListN.{length};
 ghost use Rattle.base.specs.Loops.{filled};
-ghost use Rattle.float.specs.Floats.{f64};
 ghost use Rattle.frame.specs.Image.{image};
 ghost use Rattle.frame.specs.Limits.{CaptureHeld};
 ghost use Rattle.sampling.specs.Luma.{lumaAt};
@@ -22,20 +23,6 @@ pub fn luma_plane(capture: &[u8], w: usize, h: usize, luma: &mut [f32])
         let at = 3 * i;
         luma[i] = crate::luma(capture[at], capture[at + 1], capture[at + 2]);
     }
-}
-
-pub fn min(x: usize, y: usize) -> usize
-    ensures { λ r. ⌜ r ≡ Prim.Native.Nat.min x y ⌝ }
-{
-    if x < y { x } else { y }
-}
-
-// A count below 2^53 as a float, by one instruction.
-pub fn to_f64(n: usize) -> f64
-    requires { ⌜ n ≤ 2 ^ 53 ⌝ }
-    ensures { λ r. ⌜ r ≡ f64 n ⌝ }
-{
-    (n as i64) as f64
 }
 
 // Where the coordinate t falls along a side of n pixels.

@@ -1,6 +1,6 @@
 -- The definitions, by the cases that the code goes by. Assumes nothing.
 use mathlib.Core.Path.{_≡_, refl, sym, ap, _∙_}
-use mathlib.Core.Bool.{Bool, true, false, cond, not, _&&_}
+use mathlib.Core.Bool.{Bool, true, false, cond, _&&_}
 use Prim.Native.Nat.{ℕ, _+_, _<_, _≤_}
 use native.Mathlib.Omega.{arith}
 use lib.Dec.{ltb}
@@ -8,7 +8,7 @@ use lib.Ieee.{Float, lt}
 use borrow.Author.Tests.{lt-ltb, le-ltb}
 use Rattle.base.proofs.Pick.{pick-yes, pick-no}
 use Rattle.frame.specs.Image.{Image}
-use Rattle.frame.proofs.Tests.{and-both}
+use Rattle.base.proofs.Tests.{and-both}
 use Rattle.frame.specs.declared.FrameSpec.{FrameSpec}
 use Rattle.frame.specs.declared.Quad.{Quad}
 use Rattle.frame.specs.declared.Verdict.the-variants.{Accepted, Refused}
@@ -24,21 +24,6 @@ use Rattle.search.specs.declared.Stage.{Stage}
 use Rattle.search.specs.declared.Search.{Search}
 use Rattle.search.specs.Stages.{replaces, staged, takes, stays, begun, keeps, entries, outcomeOf}
 use Rattle.search.specs.Turn.{trialOf, advanced}
-
-pub not-first : {a : Bool} (b : Bool) → a ≡ false → (a && b) ≡ false
-not-first b p = rw p
-
-pub not-second : (a : Bool) {b : Bool} → b ≡ false → (a && b) ≡ false
-not-second true q = q
-not-second false q = refl
-
-pub not-true : (a : Bool) → not a ≡ true → a ≡ false
-not-true true e = sym e
-not-true false e = refl
-
-pub not-false : (a : Bool) → not a ≡ false → a ≡ true
-not-false true e = refl
-not-false false e = sym e
 
 -- ---- what a stage keeps
 pub replaces-none : {o : Outcome} (g : Grade) → o ≡ NoHomography → true ≡ replaces o g

@@ -5,7 +5,7 @@ use lib.Ieee.{ofInt, mul, div, toUnsigned}
 use Rattle.float.specs.Floats.{d64, roundOf}
 use Rattle.search.specs.Stages.{entries, span, step}
 
--- "Stages of 41, 21 and 16 trials by `K_STAGES`"
+-- [12.1] stages of 41, 21 and 16 trials by `K_STAGES`
 pub stage-lengths : (entries 0 ≡ 41) × (entries 1 ≡ 21) × (entries 2 ≡ 16)
 unfolding entries span step d64 ofInt mul div roundOf toUnsigned
 stage-lengths = (refl, refl, refl)

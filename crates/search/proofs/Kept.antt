@@ -3,7 +3,6 @@ use mathlib.Core.Path.{_≡_, refl, sym, ap, subst, _∙_}
 use mathlib.Core.Bool.{Bool, true, false, not, cond}
 use mathlib.Core.Logic.{_⊎_, inl, inr, ⊎-elim}
 use Prim.Native.Nat.{ℕ, zero, suc, _+_, _<_}
-use native.Mathlib.Nat.{eq-or-lt-of-le, le-of-suc-le-suc}
 use native.Mathlib.Omega.{arith}
 use lib.Dec.{T, T-not, not-T}
 use lib.Ieee.{Float, lt, le, isNan}
@@ -15,13 +14,14 @@ use Rattle.search.specs.declared.Outcome.{Outcome}
 use Rattle.search.specs.declared.Outcome.the-variants.{NoHomography, Graded}
 use Rattle.search.specs.declared.Stage.{Stage}
 use Rattle.base.specs.Loops.{turns}
+use Rattle.base.proofs.Arith.{last-or}
 use Rattle.frame.specs.Image.{Image}
 use Rattle.fit.specs.Grid.{scoreOf, gradeOf}
 use Rattle.search.specs.Stages.{takes, stays, staged, replaces, more, asMuch, begun, stageFrom, entries, kAt, outcomeOf, BestTrial, nextStage, firstStage}
 use Rattle.search.specs.Stages.{secondStage, searched, lastCenter, onKept, keeps, Barren, BarrenStage}
 use Rattle.fit.specs.Fits.{fitFor, fitsFor}
 use Rattle.search.specs.Stages.BarrenStage.{first, second, third}
-use Rattle.fiducials.proofs.Order.{step-lt, lt-trans, lt-irrefl, lt-not-le, not-le-nan}
+use Rattle.float.proofs.Ordering.{step-lt, lt-trans, lt-irrefl, lt-not-le, not-le-nan}
 use Rattle.float.specs.Floats.{f64}
 use Rattle.search.proofs.Entries.{stage-lengths}
 
@@ -62,9 +62,6 @@ self-more g = lt-irrefl (scoreOf g)
 not-more : (b g : Grade) → T (not (lt (scoreOf g) (scoreOf b))) → T (not (more (Graded b) (Graded g)))
 unfolding more
 not-more b g h = h
-
-last-or : (i n : ℕ) → i < suc n → (i ≡ n) ⊎ (i < n)
-last-or i n h = eq-or-lt-of-le (le-of-suc-le-suc h)
 
 module _ (o : ℕ → Outcome) (t : ℕ → GeometryFit) where
   -- one more trial, by its outcome x
@@ -205,7 +202,7 @@ module _ (img : Image) (f : FrameSpec) (q : Quad) where
       go NoHomography k e = absurd (let z : _≡_ {A = ℕ} 0 1 = cc in omega arith)
       go (Graded b) k e = (stage-tried j (s .fit .radial .k) (s .tried) (s .homographies), (b, k))
 
-  -- "trials tried (78 when accepted)"
+  -- [12.6] trials tried: 78 when accepted
   pub tried-78 : (g : Grade) → searched img f q .kept ≡ Graded g → searched img f q .tried ≡ 78
   unfolding searched secondStage firstStage
   tried-78 g e =
@@ -323,7 +320,7 @@ module _ (o : ℕ → Outcome) (t : ℕ → GeometryFit) (tried homographies : �
       go s NoHomography e = unfold staged mapped in omega arith
       go s (Graded g) e = unfold staged mapped in take (replaces (s .kept) g) g s e
 
--- "how many had a homography": a stage adds the trials of it that have one
+-- [12.6] how many had a homography: a stage adds the trials of it that have one
 pub stage-mapped : (img : Image) (f : FrameSpec) (q : Quad) (j : ℕ) (center : Float) (tried homographies : ℕ)
     → stageFrom img f q j center tried homographies .homographies ≡ homographies + mappedOf (λ i. outcomeOf img f q (kAt j center i)) (entries j)
 unfolding stageFrom

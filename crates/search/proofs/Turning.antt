@@ -1,6 +1,6 @@
 -- A search of turns comes to what the three stages come to, in at most 78 turns. Assumes nothing.
 use mathlib.Core.Path.{_≡_, refl, sym, ap, subst, _∙_}
-use mathlib.Core.Bool.{Bool, true, false, cond, _&&_}
+use mathlib.Core.Bool.{Bool, true, false, cond, _&&_, false≢true}
 use mathlib.Core.Logic.{⊎-elim}
 use Prim.Native.Nat.{ℕ, zero, suc, _+_, _-_, _≤_, _<_}
 use native.Mathlib.Omega.{arith}
@@ -9,10 +9,10 @@ use lib.Ieee.{Float}
 use borrow.Author.Tests.{lt-ltb, ltb-true}
 use Rattle.base.specs.Loops.{turns}
 use Rattle.base.proofs.Turns.{turns-begin, turns-step}
-use Rattle.base.proofs.Plane.{le-or-lt}
+use Rattle.base.proofs.Arith.{le-or-lt}
 use Rattle.base.proofs.Pick.{pick-yes, pick-no}
 use Rattle.float.specs.Floats.{f64}
-use Rattle.frame.proofs.Tests.{and-left, and-right}
+use Rattle.base.proofs.Tests.{and-left, and-right}
 use Rattle.frame.specs.Image.{Image}
 use Rattle.frame.specs.declared.FrameSpec.{FrameSpec}
 use Rattle.frame.specs.declared.Quad.{Quad}
@@ -26,9 +26,6 @@ use Rattle.fit.specs.Fits.{fitFor}
 use Rattle.search.specs.Turn.{beginning, advanced, turnOf, Counting}
 use Rattle.search.proofs.Cases.{advanced-entry, advanced-stage, advanced-over}
 use Rattle.search.proofs.Entries.{stage-lengths}
-
-false-true : false ≡ true → ⊥
-false-true e = let z : _≡_ {A = ℕ} 0 1 = cc in omega arith
 
 -- ---- a trial counts one more
 abbrev Counted : Stage → Stage → Type 0
@@ -220,7 +217,7 @@ module _ (img : Image) (f : FrameSpec) (q : Quad) where
     where
       go : (o : Outcome) → keeps o ≡ true → onKept o s (stageFrom img f q j (s .fit .radial .k) (s .tried) (s .homographies))
           ≡ stageFrom img f q j (s .fit .radial .k) (s .tried) (s .homographies)
-      go NoHomography k = absurd (false-true (unfold keeps in k))
+      go NoHomography k = absurd (false≢true (unfold keeps in k))
       go (Graded g) k = refl
 
   next-none : (j : ℕ) (s : Stage) → keeps (s .kept) ≡ false → nextStage img f q j s ≡ s
@@ -229,14 +226,14 @@ module _ (img : Image) (f : FrameSpec) (q : Quad) where
     where
       go : (o : Outcome) → keeps o ≡ false → onKept o s (stageFrom img f q j (s .fit .radial .k) (s .tried) (s .homographies)) ≡ s
       go NoHomography k = refl
-      go (Graded g) k = absurd (false-true (sym (unfold keeps in k)))
+      go (Graded g) k = absurd (false≢true (sym (unfold keeps in k)))
 
   -- none kept before the third stage
   none-kept : (j : ℕ) (t : Stage) → j < 2 → (keeps (t .kept) && ltb j 2) ≡ false → keeps (t .kept) ≡ false
   none-kept j t l e = go (keeps (t .kept)) (ltb j 2) (lt-ltb j 2 l) e
     where
       go : (a b : Bool) → b ≡ true → (a && b) ≡ false → a ≡ false
-      go true b h e = absurd (false-true (sym e ∙ h))
+      go true b h e = absurd (false≢true (sym e ∙ h))
       go false b h e = refl
 
   -- the first head of a stage
@@ -319,7 +316,7 @@ module _ (img : Image) (f : FrameSpec) (q : Quad) where
   turn-left s (in-first r) e = left-less 0 _ _ _ s r (lit< tt) (turned 0 _ _ _ s r)
   turn-left s (in-second g r) e = left-less 1 _ _ _ s r (lit< tt) (turned 1 _ _ _ s r)
   turn-left s (in-third g r) e = left-less 2 _ _ _ s r (lit< tt) (turned 2 _ _ _ s r)
-  turn-left s (over d g) e = absurd (false-true (sym e ∙ d))
+  turn-left s (over d g) e = absurd (false≢true (sym e ∙ d))
 
   pub turn-held : (s : Search) → Reached s → s .ended ≡ false → Held s → Held (turnOf img f q s)
   turn-held s r e h =
@@ -338,11 +335,11 @@ module _ (img : Image) (f : FrameSpec) (q : Quad) where
   turn-counting s (in-first r) e h = counting 0 _ _ _ s r (lit< tt) h
   turn-counting s (in-second g r) e h = counting 1 _ _ _ s r (lit< tt) h
   turn-counting s (in-third g r) e h = counting 2 _ _ _ s r (lit< tt) h
-  turn-counting s (over d g) e h = absurd (false-true (sym e ∙ d))
+  turn-counting s (over d g) e h = absurd (false≢true (sym e ∙ d))
 
   -- the end
   pub ended-searched : (s : Search) → Reached s → s .ended ≡ true → s .stage ≡ searched img f q
-  ended-searched s (in-first r) e = absurd (false-true (sym (r .going) ∙ e))
-  ended-searched s (in-second g r) e = absurd (false-true (sym (r .going) ∙ e))
-  ended-searched s (in-third g r) e = absurd (false-true (sym (r .going) ∙ e))
+  ended-searched s (in-first r) e = absurd (false≢true (sym (r .going) ∙ e))
+  ended-searched s (in-second g r) e = absurd (false≢true (sym (r .going) ∙ e))
+  ended-searched s (in-third g r) e = absurd (false≢true (sym (r .going) ∙ e))
   ended-searched s (over d g) e = g

@@ -1,4 +1,4 @@
--- The lens search (document 01, "Lens search and warp"). Assumes nothing.
+-- The lens search (requirements, 12). Assumes nothing.
 use Prim.Native.Nat.{ℕ, zero, suc, _+_, _<_}
 use mathlib.Core.Path.{_≡_}
 use mathlib.Core.Bool.{Bool, true, false, cond, not}
@@ -32,25 +32,25 @@ step zero = d64 10 1000
 step (suc zero) = d64 12 10000
 step (suc (suc n)) = d64 2 10000
 
--- "Stages of 41, 21 and 16 trials": 0 ..= n, where n is twice the span over the step, rounded
+-- [12.1] stages of 41, 21 and 16 trials: 0 ..= n, where n is twice the span over the step, rounded
 unfoldable pub entries : ℕ → ℕ
 entries j = asUsize (roundOf (f64 2 ⊗ span j ⊘ step j)) + 1
 
--- "k clamped to ±0.20": entry i of stage j around a centre
+-- [12.1] k clamped to ±0.20: entry i of stage j around a centre
 unfoldable pub kAt : ℕ → Float → ℕ → Float
 kAt j center i = clampOf (neg kMax) kMax (center ⊖ span j ⊕ step j ⊗ f64 i)
 
 -- ---- a trial
 
--- "A trial without homography is skipped; otherwise its outcome wraps a grade": the outcome of the trial of k
+-- [12.4] a trial without homography is skipped; otherwise its outcome wraps a grade: the outcome of the trial of k
 unfoldable pub outcomeOf : Image → FrameSpec → Quad → Float → Outcome
 outcomeOf img f q k =
     cond (fitsFor (img .w) (img .h) f q k) (Graded (gradeOf img f (fitFor (img .w) (img .h) f q k))) NoHomography
 
 -- ---- a stage
 
--- "Each stage begins with none kept and keeps its first trial with a homography. A later trial of that stage replaces
--- the kept one only by scoring more."
+-- [12.5] each stage begins with none kept and keeps its first trial with a homography; a later trial of that stage
+-- replaces the kept one only by scoring more
 unfoldable pub replaces : Outcome → Grade → Bool
 replaces NoHomography g = true
 replaces (Graded b) g = lt (scoreOf b) (scoreOf g)
@@ -77,14 +77,15 @@ abbrev pub begun : ℕ → ℕ → Stage
 begun tried homographies = record { kept = NoHomography; fit = noFit; tried = tried; homographies = homographies }
 
 unfoldable pub stageFrom : Image → FrameSpec → Quad → ℕ → Float → ℕ → ℕ → Stage
-stageFrom img f q j center tried homographies = turns (entries j) (trialStep img f q j center) (begun tried homographies)
+stageFrom img f q j center tried homographies =
+    turns (entries j) (trialStep img f q j center) (begun tried homographies)
 
 -- a stage has kept a trial
 unfoldable pub keeps : Outcome → Bool
 keeps NoHomography = false
 keeps (Graded g) = true
 
--- ---- the three stages: "the second and third around the k kept before"; a stage that keeps none is the last
+-- ---- [12.1] the three stages, the second and third around the k kept before; a stage that keeps none is the last
 
 abbrev pub onKept : Outcome → Stage → Stage → Stage
 onKept NoHomography s next = s
@@ -102,11 +103,11 @@ secondStage img f q = nextStage img f q 1 (firstStage img f q)
 unfoldable pub searched : Image → FrameSpec → Quad → Stage
 searched img f q = nextStage img f q 2 (secondStage img f q)
 
--- the centre of the last stage: "around the k kept before"
+-- [12.1] the centre of the last stage: the k kept before
 unfoldable pub lastCenter : Image → FrameSpec → Quad → Float
 lastCenter img f q = secondStage img f q .fit .radial .k
 
--- "a stage in which no trial has" a homography
+-- [2.10] a stage in which no trial has a homography
 abbrev pub Barren : Image → FrameSpec → Quad → ℕ → Float → Type 0
 Barren img f q j center = (i : ℕ) → i < entries j → T (not (fitsFor (img .w) (img .h) f q (kAt j center i)))
 
@@ -118,7 +119,8 @@ pub data BarrenStage (img : Image) (f : FrameSpec) (q : Quad) : Type 0 where
 
 -- ---- the kept trial of a stage, by meaning
 
--- "outside and too few as −∞ .. and a trial without homography has no score": a scores more than b, and as much
+-- [12.3] outside and too few compare as −∞, and a trial without homography has no score: a scores more than b, and as
+-- much
 unfoldable pub more : Outcome → Outcome → Bool
 more NoHomography b = false
 more (Graded a) NoHomography = false
@@ -129,9 +131,10 @@ asMuch NoHomography b = false
 asMuch (Graded a) NoHomography = false
 asMuch (Graded a) (Graded b) = le (scoreOf b) (scoreOf a)
 
--- "The reported fit is a trial of the last lens stage ... No other trial of that stage scores more, and no earlier
--- one as much."
-pub record BestTrial (img : Image) (f : FrameSpec) (q : Quad) (j : ℕ) (center : Float) (fit : GeometryFit) : Type 0 where
+-- [0.5] the reported fit is a trial of the last lens stage; no other trial of that stage scores more, and no earlier
+-- one as much
+pub record BestTrial (img : Image) (f : FrameSpec) (q : Quad) (j : ℕ) (center : Float) (fit : GeometryFit)
+    : Type 0 where
   pub entry : ℕ
   pub of-stage : entry < entries j
   pub has-homography : T (fitsFor (img .w) (img .h) f q (kAt j center entry))

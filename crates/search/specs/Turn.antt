@@ -16,7 +16,7 @@ use Rattle.frame.specs.declared.Quad.{Quad}
 use Rattle.search.specs.declared.Stage.{Stage}
 use Rattle.search.specs.declared.Search.{Search}
 
--- a trial: "its k .., the homography that this gives .., and the grid score of the two"
+-- [12.2] a trial: its k, the homography that this gives, and the grid score of the two
 unfoldable pub trialOf : Image → FrameSpec → Quad → Float → Trial
 trialOf img f q k =
     let t = fitFor (img .w) (img .h) f q k in

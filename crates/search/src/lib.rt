@@ -22,8 +22,8 @@ pub struct Trial {
     pub fit: GeometryFit,
 }
 
-// A stage of the lens search: the trial that it keeps, by its outcome and its fit, and the counts of
-// trials and homographies so far, those of earlier stages included.
+// A stage of the lens search: the trial that it keeps, by its outcome and its fit, and the counts
+// of trials and homographies so far, those of earlier stages included.
 pub struct Stage {
     pub kept: Outcome,
     pub fit: GeometryFit,
@@ -31,8 +31,8 @@ pub struct Stage {
     pub homographies: usize,
 }
 
-// The lens search between two trials: the stage's number, the entry to be tried next, the k that the
-// stage goes around, and the stage so far.
+// The lens search between two trials: the stage's number, the entry to be tried next, the k that
+// the stage goes around, and the stage so far.
 pub struct Search {
     pub number: usize,
     pub entry: usize,

@@ -4,23 +4,12 @@ use crate::Search;
 use crate::Stage;
 use fit::GeometryFit;
 use fit::Grade;
+use fit::internal::score_of;
 ghost use mathlib.Core.Path.{_≡_};
 ghost use mathlib.Core.Bool.{true, false};
 ghost use Prim.Native.Nat.{_+_, _≤_, _<_};
-ghost use Rattle.fit.specs.Grid.{scoreOf};
 ghost use Rattle.search.specs.Stages as spec;
 ghost use Rattle.search.specs.Turn.{Counting, advanced};
-
-// The score that a grade stands for: outside and too few as −∞.
-fn score_of(g: Grade) -> f64
-    ensures { λ r. ⌜ r ≡ scoreOf g ⌝ }
-{
-    match g {
-        Grade::Score(s) => s,
-        Grade::Outside(_) => -(1.0 / 0.0),
-        Grade::TooFew => -(1.0 / 0.0),
-    }
-}
 
 // A trial with this grade takes the place of the kept one: of none, and else only by scoring more.
 fn replaces(kept: Outcome, g: Grade) -> bool

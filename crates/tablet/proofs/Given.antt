@@ -9,6 +9,7 @@ use Rattle.frame.specs.declared.FrameSpec.{FrameSpec}
 use Rattle.frame.specs.declared.Verdict.{Verdict}
 use Rattle.frame.proofs.Given.{verdict-number}
 use Rattle.markers.specs.Contracts.{Stamping}
+use Rattle.blobs.specs.Areas.{PatchAreas}
 use Rattle.blobs.specs.Contracts.{Labelling}
 use native.Mathlib.Omega.{arith}
 use Rattle.fit.specs.Contracts.{Scoring, scoreNumber, scoredAs, fittedAs}
@@ -47,9 +48,9 @@ warping img f fit t c c′ v r p e s =
       refused = s .refused;
     }
 
-pub labelling : (m : List ℕ) (w h : ℕ) (s k l s′ k′ l′ : List ℕ) (v : Verdict) (n most r : ℕ) → r ≡ numberOf v → Labelling m w h s k l s′ k′
-    l′ v n most → Labelling m w h s k l s′ k′ l′ (verdictOf r) n most
-labelling m w h s k l s′ k′ l′ v n most r e d =
+pub labelling : (m : List ℕ) (w h : ℕ) (a b : PatchAreas) (v : Verdict) (n waited r : ℕ) → r ≡ numberOf v → Labelling m w h a b v n waited
+    → Labelling m w h a b (verdictOf r) n waited
+labelling m w h a b v n waited r e d =
     record { given = verdict-is v _ r (d .given) e; accepted = d .accepted; untouched = d .untouched }
 
 -- ---- the answer of `grid_score`
@@ -92,12 +93,12 @@ fitted-fit n t e = rw e
 
 -- ---- the public functions with all work areas
 
-pub listing : (img : Image) (f : FrameSpec) (a b : Areas) (v : Verdict) (n k deep r : ℕ) → r ≡ numberOf v → Listing img f a b v n k deep → Listing img f a b (verdictOf r) n k deep
-listing img f a b v n k deep r e d = record { given = verdict-is v _ r (d .given) e; accepted = d .accepted; refused = d .refused }
+pub listing : (img : Image) (f : FrameSpec) (a b : Areas) (v : Verdict) (n k waited r : ℕ) → r ≡ numberOf v → Listing img f a b v n k waited → Listing img f a b (verdictOf r) n k waited
+listing img f a b v n k waited r e d = record { given = verdict-is v _ r (d .given) e; accepted = d .accepted; refused = d .refused }
 
-pub detection : (img : Image) (f : FrameSpec) (a b : Areas) (v : Verdict) (n k deep : ℕ) (s : Places) (q : Quad) (r : ℕ) → r ≡ numberOf v
-    → Detection img f a b v n k deep s q → Detection img f a b (verdictOf r) n k deep s q
-detection img f a b v n k deep s q r e d =
+pub detection : (img : Image) (f : FrameSpec) (a b : Areas) (v : Verdict) (n k waited : ℕ) (s : Places) (q : Quad) (r : ℕ) → r ≡ numberOf v
+    → Detection img f a b v n k waited s q → Detection img f a b (verdictOf r) n k waited s q
+detection img f a b v n k waited s q r e d =
     record {
       number = d .number;
       given = verdict-is v _ r (d .given) e;

@@ -14,7 +14,7 @@ use Rattle.base.specs.Loops.{filled}
 use Rattle.base.proofs.Table.{table-is, filled-whole, filled-front}
 use Rattle.frame.specs.Refusals.{Check, check, lowestOf}
 use Rattle.frame.proofs.Lowest.{Rising}
-use Rattle.frame.proofs.Tests.{and-left}
+use Rattle.base.proofs.Tests.{and-left}
 use Rattle.tablet.specs.Slices.{written, answered, Answer, Over, told}
 
 module _ {A : Type 0} (v l : List A) (d : A) (h : length v ≤ length l) where

@@ -8,6 +8,7 @@ use lib.Ieee.{Float}
 use Rattle.frame.specs.Image.{Image}
 use Rattle.frame.specs.Refusals.{verdictOf}
 use Rattle.frame.specs.declared.FrameSpec.{FrameSpec}
+use Rattle.blobs.specs.Areas.{PatchAreas}
 use Rattle.blobs.specs.Contracts.{Labelling}
 use Rattle.fit.specs.Contracts.{Scoring, scoredAs}
 use Rattle.fit.specs.Grid.{gradeOf, scoreOf}
@@ -41,26 +42,25 @@ GridScored img f fit means means′ grade grade′ score score′ r =
     (Graded img f fit means means′ grade grade′ score score′ r)
 
 -- `label_blobs`: its two numbers in the slice for counts
-pub record Labelled (m : List ℕ) (w h : ℕ) (s k l s′ k′ l′ counts counts′ : List ℕ) (r : ℕ) : Type 0 where
+pub record Labelled (m : List ℕ) (w h : ℕ) (a b : PatchAreas) (counts counts′ : List ℕ) (r : ℕ) : Type 0 where
   pub patches : ℕ
-  pub most : ℕ
-  pub labelling : Labelling m w h s k l s′ k′ l′ (verdictOf r) patches most
-  pub counts-are : counts′ ≡ answered r (patches ∷ most ∷ []) counts
+  pub waited : ℕ
+  pub labelling : Labelling m w h a b (verdictOf r) patches waited
+  pub counts-are : counts′ ≡ answered r (patches ∷ waited ∷ []) counts
 
-abbrev pub LabelledOver : List ℕ → ℕ → ℕ → List ℕ → List ℕ → List ℕ → List ℕ → List ℕ → List ℕ → List ℕ → List ℕ → ℕ
-    → Type 0
-LabelledOver m w h s k l s′ k′ l′ counts counts′ r =
+abbrev pub LabelledOver : List ℕ → ℕ → ℕ → PatchAreas → PatchAreas → List ℕ → List ℕ → ℕ → Type 0
+LabelledOver m w h a b counts counts′ r =
     Over (short counts 2) (maskFirst (length m) w h) r
-    ((s′ ≡ s) × (k′ ≡ k) × (l′ ≡ l) × (counts′ ≡ counts))
-    (Labelled m w h s k l s′ k′ l′ counts counts′ r)
+    ((b ≡ a) × (counts′ ≡ counts))
+    (Labelled m w h a b counts counts′ r)
 
 -- `fiducial_candidates`: its three numbers in the slice for counts
 pub record Listed (img : Image) (f : FrameSpec) (a b : Areas) (counts counts′ : List ℕ) (r : ℕ) : Type 0 where
   pub patches : ℕ
   pub candidates : ℕ
-  pub most : ℕ
-  pub listing : Listing img f a b (verdictOf r) patches candidates most
-  pub counts-are : counts′ ≡ answered r (listNumbers patches candidates most) counts
+  pub waited : ℕ
+  pub listing : Listing img f a b (verdictOf r) patches candidates waited
+  pub counts-are : counts′ ≡ answered r (listNumbers patches candidates waited) counts
 
 abbrev pub ListedOver : Image → FrameSpec → Areas → Areas → List ℕ → List ℕ → ℕ → Type 0
 ListedOver img f a b counts counts′ r =
@@ -71,11 +71,11 @@ pub record Detected (img : Image) (f : FrameSpec) (a b : Areas) (counts counts�
     Float) (r : ℕ) : Type 0 where
   pub patches : ℕ
   pub candidates : ℕ
-  pub most : ℕ
+  pub waited : ℕ
   pub places : Places
   pub quad : Quad
-  pub detection : Detection img f a b (verdictOf r) patches candidates most places quad
-  pub counts-are : counts′ ≡ told r (listNumbers patches candidates most ++ placeNumbers places) counts
+  pub detection : Detection img f a b (verdictOf r) patches candidates waited places quad
+  pub counts-are : counts′ ≡ told r (listNumbers patches candidates waited ++ placeNumbers places) counts
   pub points-are : points′ ≡ answered r (quadNumbers quad) points
 
 abbrev pub DetectedOver : Image → FrameSpec → Areas → Areas → List ℕ → List ℕ → List Float → List Float → ℕ → Type 0

@@ -95,7 +95,7 @@ lengthNumbers w h f = 3 * w * h ∷ (areaLengths (smallest w h) ++ (sampledCells
 
 -- "Entries of the counts": patches, candidates, the most pixels waiting
 unfoldable pub listNumbers : ℕ → ℕ → ℕ → List ℕ
-listNumbers n k deep = n ∷ k ∷ deep ∷ []
+listNumbers n k waited = n ∷ k ∷ waited ∷ []
 
 -- .. and the four corners' places
 unfoldable pub placeNumbers : Places → List ℕ

@@ -7,7 +7,7 @@ use lib.Dec.{leb, ltb}
 use lib.ListN.{length, drop}
 use Rattle.frame.specs.Refusals.{Check, lowestOf}
 
--- "3: a work area too short": so is a slice of numbers, handed in or for results, with fewer than n
+-- [2.3] 3: a work area is too short; so is a slice of numbers, handed in or for results, with fewer than n
 abbrev pub short : {A : Type 0} → List A → ℕ → Bool
 short l n = ltb (length l) n
 

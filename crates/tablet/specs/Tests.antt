@@ -84,6 +84,6 @@ sidesFirst w h f = check 1 (frameOutside f) ∷ check 2 (sidesWrong w h) ∷ che
 unfoldable pub captureFirst : Image → FrameSpec → List Check
 captureFirst img f = check 1 (frameOutside f) ∷ check 2 (captureWrong img) ∷ check 3 true ∷ []
 
--- `label_blobs`: "a wrong length gives 2"
+-- `label_blobs`: [7.2] a wrong length gives 2
 unfoldable pub maskFirst : ℕ → ℕ → ℕ → List Check
 maskFirst mask w h = check 2 (sidesWrong w h || not (eqb mask (w * h))) ∷ check 3 true ∷ []

@@ -34,7 +34,7 @@ keptScore (Graded g) = scoreOf g
 -- "Entries of the counts": all eleven
 unfoldable pub foundNumbers : PictureFit → List ℕ
 foundNumbers a =
-    listNumbers (a .patches) (a .candidates) (a .waiting)
+    listNumbers (a .patches) (a .candidates) (a .waited)
     ++ (placeNumbers (a .places) ++ (a .tried ∷ a .homographies ∷ keptNumber (a .kept) ∷ keptCell (a .kept) ∷ []))
 
 -- "Entries of a found fit": all fourteen

@@ -1,4 +1,5 @@
-// The public functions' answers as a number and a value, and the number where a slice of numbers is too short.
+// The public functions' answers as a number and a value, and the number where a slice of numbers is
+// too short.
 use fit::Grade;
 use frame::FrameSpec;
 use frame::Number;
@@ -22,7 +23,6 @@ ghost use Rattle.frame.specs.Answers.{numberRefusal, numberValue};
 ghost use Rattle.markers.specs.Answers.{centersRefusal, centersValue};
 ghost use Rattle.radial.specs.Lens.{lensRefusal, lensValue};
 ghost use Rattle.sampling.specs.Answers.{colourRefusal, colourValue};
-ghost use Rattle.fit.specs.Grid.{scoreOf};
 ghost use Rattle.tablet.specs.Layouts.{gradeNumber, outsideCell};
 ghost use Rattle.tablet.specs.Tests.{frameFirst, sidesFirst, captureFirst, maskFirst};
 
@@ -145,17 +145,6 @@ pub fn outside_cell(g: Grade) -> u64
         Grade::Score(_) => 0,
         Grade::Outside(cell) => cell as u64,
         Grade::TooFew => 0,
-    }
-}
-
-// The score that a grade stands for: outside and too few as −∞.
-pub fn score_of(g: Grade) -> f64
-    ensures { λ r. ⌜ r ≡ scoreOf g ⌝ }
-{
-    match g {
-        Grade::Score(s) => s,
-        Grade::Outside(_) => -(1.0 / 0.0),
-        Grade::TooFew => -(1.0 / 0.0),
     }
 }
 

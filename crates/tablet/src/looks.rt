@@ -23,7 +23,7 @@ ghost use Rattle.tablet.specs.Contracts.{ListedOver, DetectedOver};
 fn answer_listed(a: Listed, counts: &mut [u64]) -> u32
     requires { ⌜ 3 ≤ length (now counts) ⌝ }
     ensures { λ r. ⌜ (r ≡ numberOf (a .verdict)) × (now (counts .exit) ≡ answered r (listNumbers (a .patches)
-        (a .candidates) (a .waiting)) (now (counts .entry))) ⌝ }
+        (a .candidates) (a .waited)) (now (counts .entry))) ⌝ }
 {
     let v = a.verdict;
     let n = number_of(v);
@@ -32,7 +32,7 @@ fn answer_listed(a: Listed, counts: &mut [u64]) -> u32
     }
     store_counts(
         counts,
-        &[a.patches as u64, a.candidates as u64, a.waiting as u64],
+        &[a.patches as u64, a.candidates as u64, a.waited as u64],
     );
     0
 }
@@ -42,7 +42,7 @@ fn answer_listed(a: Listed, counts: &mut [u64]) -> u32
 fn answer_detected(a: Detected, counts: &mut [u64], points: &mut [f64]) -> u32
     requires { ⌜ (7 ≤ length (now counts)) × (8 ≤ length (now points)) ⌝ }
     ensures { λ r. ⌜ (r ≡ numberOf (a .verdict)) × (now (counts .exit)
-        ≡ told r (listNumbers (a .patches) (a .candidates) (a .waiting) ++ placeNumbers (a .places))
+        ≡ told r (listNumbers (a .patches) (a .candidates) (a .waited) ++ placeNumbers (a .places))
         (now (counts .entry))) × (now (points .exit) ≡ answered r (quadNumbers (a .quad)) (now (points .entry))) ⌝ }
 {
     let v = a.verdict;
@@ -56,7 +56,7 @@ fn answer_detected(a: Detected, counts: &mut [u64], points: &mut [f64]) -> u32
         &[
             a.patches as u64,
             a.candidates as u64,
-            a.waiting as u64,
+            a.waited as u64,
             s.tl as u64,
             s.tr as u64,
             s.br as u64,

@@ -9,6 +9,7 @@ use super::slices::store_counts;
 use frame::FrameSpec;
 ghost use Rattle.frame.specs.Image.{image};
 ghost use Rattle.sampling.specs.Reading.{bilinear};
+ghost use Rattle.blobs.specs.Areas.{patchAreas};
 ghost use Rattle.tablet.specs.Slices.{Answer};
 ghost use Rattle.tablet.specs.Layouts.{frame, colourNumbers};
 ghost use Rattle.tablet.specs.Tests.{colourTests};
@@ -82,9 +83,10 @@ pub extern "C" fn tablet_label_blobs(
     patches: &mut [u64],
     counts: &mut [u64],
 ) -> u32
-    ensures { λ r. ⌜ LabelledOver (now (mask .entry)) w h (now (seen .entry)) (now (waiting .entry))
-        (now (patches .entry)) (now (seen .exit)) (now (waiting .exit)) (now (patches .exit)) (now (counts .entry))
-        (now (counts .exit)) r ⌝ }
+    ensures { λ r. ⌜ LabelledOver (now (mask .entry)) w h
+        (patchAreas (now (seen .entry)) (now (waiting .entry)) (now (patches .entry)))
+        (patchAreas (now (seen .exit)) (now (waiting .exit)) (now (patches .exit)))
+        (now (counts .entry)) (now (counts .exit)) r ⌝ }
 {
     if counts.len() < 2 {
         return mask_first(mask.len(), w, h);
@@ -95,6 +97,6 @@ pub extern "C" fn tablet_label_blobs(
     if n != 0 {
         return n;
     }
-    store_counts(counts, &[a.patches as u64, a.waiting as u64]);
+    store_counts(counts, &[a.patches as u64, a.waited as u64]);
     0
 }

@@ -3,11 +3,11 @@ use super::answers::capture_first;
 use super::answers::grade_number;
 use super::answers::number_of;
 use super::answers::outside_cell;
-use super::answers::score_of;
 use super::answers::untouched;
 use super::slices::short;
 use super::slices::store;
 use super::slices::store_counts;
+use fit::internal::score_of;
 use fit_geometry::PictureFit;
 use frame::FrameSpec;
 use search::Outcome;
@@ -69,7 +69,7 @@ fn store_found(counts: &mut [u64], a: PictureFit)
         &[
             a.patches as u64,
             a.candidates as u64,
-            a.waiting as u64,
+            a.waited as u64,
             places.tl as u64,
             places.tr as u64,
             places.br as u64,

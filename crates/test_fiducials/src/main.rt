@@ -1,12 +1,13 @@
 // What `fiducial_candidates` and `detect_fiducials` find in drawn pictures, printed. The expected
-// output is the original's: host/vectors/src/bin/corners.rs says what stdin holds and what is
+// output is the original's: host/vectors/src/bin/fiducials.rs says what stdin holds and what is
 // printed, and how to make both again.
+use base::min;
 use candidates::fiducial_candidates;
-use candidates::internal::candidate_at;
+use candidates::list::candidate_at;
 use fiducials::Places;
 use fiducials::detect_fiducials;
-use fiducials::internal::one_way;
-use fiducials::internal::too_small;
+use fiducials::quadrilateral::one_way;
+use fiducials::quadrilateral::too_small;
 use frame::FrameSpec;
 use frame::Point;
 use frame::Quad;
@@ -14,7 +15,7 @@ use frame::Rgb;
 use frame::Verdict;
 use frame::internal::fill_rect;
 ghost use mathlib.Core.Path.{_≡_};
-ghost use Prim.Native.Nat.{_+_, _*_, _≤_, _<_, min};
+ghost use Prim.Native.Nat.{_+_, _*_, _≤_, _<_};
 ghost use lib.ListN.{length};
 
 fn main() {
@@ -172,12 +173,6 @@ fn print_candidates(records: &[f64], blob_index: &[u32], k: usize)
     for i in 0..min(k, 288) {
         print_candidate(records, blob_index, i);
     }
-}
-
-fn min(a: usize, b: usize) -> usize
-    ensures { λ r. ⌜ r ≡ min a b ⌝ }
-{
-    if a < b { a } else { b }
 }
 
 fn print_candidate(records: &[f64], blob_index: &[u32], i: usize)

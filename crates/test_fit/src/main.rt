@@ -1,5 +1,5 @@
-// Runs fit_for and grid_score on outside vectors, the original's own answers: host/vectors/src/bin/fit.rs
-// says what stdin and stdout hold, and how to make them again.
+// Runs fit_for and grid_score on outside vectors, the original's own answers:
+// host/vectors/src/bin/fit.rs says what stdin and stdout hold, and how to make them again.
 use fit::Fitted;
 use fit::GeometryFit;
 use fit::Grade;

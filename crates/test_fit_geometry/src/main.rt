@@ -1,5 +1,6 @@
-// Runs fit_geometry on outside vectors, the original's own answers: host/vectors/src/bin/fit.rs says
-// what stdin and stdout hold, and how to make them again.
+// Runs fit_geometry on outside vectors, the original's own answers: host/vectors/src/bin/fit.rs
+// says what stdin and stdout hold, and how to make them again.
+use base::min;
 use fiducials::Places;
 use fit::GeometryFit;
 use fit::Grade;
@@ -7,8 +8,6 @@ use fit_geometry::PictureFit;
 use frame::FrameSpec;
 use frame::Verdict;
 use search::Outcome;
-ghost use mathlib.Core.Path.{_≡_};
-ghost use Prim.Native.Nat.{min};
 
 // A record at a time, to the end of stdin. The areas are those of a capture of 200 by 200, and are
 // not cleared between two records.
@@ -48,7 +47,7 @@ fn main() {
 
 // Reads the capture behind the record.
 fn load(b: &[u8], capture: &mut [u8]) {
-    let bytes = least(size_at(b, 6), capture.len());
+    let bytes = min(size_at(b, 6), capture.len());
     io::read_full(0, &mut capture[..bytes]);
 }
 
@@ -66,8 +65,8 @@ fn answer(
     blob_index: &mut [u32; 1250],
     means: &mut [f64],
 ) {
-    let bytes = least(size_at(b, 6), capture.len());
-    let cells = least(size_at(b, 7), means.len());
+    let bytes = min(size_at(b, 6), capture.len());
+    let cells = min(size_at(b, 7), means.len());
     let r = fit_geometry::fit_geometry(
         &capture[..bytes],
         size_at(b, 0),
@@ -87,12 +86,6 @@ fn answer(
 }
 
 // ---- arguments
-
-fn least(a: usize, b: usize) -> usize
-    ensures { λ r. ⌜ r ≡ min a b ⌝ }
-{
-    if a < b { a } else { b }
-}
 
 fn size_at(b: &[u8], i: usize) -> usize {
     vectors::word(b, i) as usize

@@ -1,7 +1,7 @@
-// Runs each float helper on outside vectors and compares by bit patterns. The vectors are Rust's own
-// answers: host/vectors/src/bin/float.rs says what stdin holds, and how to make it again. For each
-// helper its name and number of vectors are printed; at the first difference the program prints
-// which vector, the arguments, the answer and what it should be, and stops.
+// Runs each float helper on outside vectors and compares by bit patterns. The vectors are Rust's
+// own answers: host/vectors/src/bin/float.rs says what stdin holds, and how to make it again. For
+// each helper its name and number of vectors are printed; at the first difference the program
+// prints which vector, the arguments, the answer and what it should be, and stops.
 ghost use Prim.Native.Nat.{_≤_};
 
 const HELPERS: usize = 10;
@@ -41,7 +41,8 @@ struct Run {
     at: usize,
 }
 
-// The helper's n vectors from word `at` on, up to the first that differs or that lies past any input.
+// The helper's n vectors from word `at` on, up to the first that differs or that lies past any
+// input.
 fn compare(b: &[u8], helper: usize, at: usize, n: u64) -> Run
     ensures { λ r. ⌜ r .agree ≤ n ⌝ }
 {

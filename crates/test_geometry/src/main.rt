@@ -1,6 +1,6 @@
-// The whole path on stored captures: each of data/ is rectified, and its answer printed. The expected
-// output is the original's answers: host/comparison/src/bin/captures.rs says what captures and answers
-// hold, and makes them again (`captures all DIR`).
+// The whole path on stored captures: each of data/ is rectified, and its answer printed. The
+// expected output is the original's answers: host/comparison/src/bin/captures.rs says what captures
+// and answers hold, and makes them again (`captures all DIR`).
 //   0, 1      the incident: a panel behind a grating, more than 256 patches before the lower right
 //             ring's; the same without that ring
 //   2 to 4    one accepted under a frame of 192 by 192, one refused by 7, one by 9

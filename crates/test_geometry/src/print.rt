@@ -1,13 +1,13 @@
 // An answer's lines, on standard output.
 use crate::file::Sizes;
 use crate::sum;
+use base::min;
 use fit::GeometryFit;
 use fit::Grade;
 use fit_geometry::PictureFit;
 use frame::Verdict;
 use search::Outcome;
-ghost use mathlib.Core.Path.{_≡_};
-ghost use Prim.Native.Nat.{_+_, _*_, _≤_, _<_, min};
+ghost use Prim.Native.Nat.{_+_, _*_, _≤_, _<_};
 ghost use lib.ListN.{length};
 
 // A word, numbers after it, and the line's end.
@@ -62,7 +62,7 @@ pub(crate) fn answer(
         }
     }
     first(b"mask", mask, s.pixels);
-    look(patches, r.patches, candidates, blob_index, r.candidates);
+    lists(patches, r.patches, candidates, blob_index, r.candidates);
     if number == 0 {
         flat(r);
         first(b"canonical", canonical, s.bytes);
@@ -80,27 +80,21 @@ fn refusal(verdict: Verdict) -> u32 {
     n
 }
 
-fn least(a: usize, b: usize) -> usize
-    ensures { λ r. ⌜ r ≡ min a b ⌝ }
-{
-    if a < b { a } else { b }
-}
-
 // A word, and the sum of the first n bytes.
 fn first(word: &[u8], b: &[u8], n: usize) {
-    let end = least(n, b.len());
+    let end = min(n, b.len());
     let s = [sum::of_bytes(&b[..end])];
     line(word, &s);
 }
 
 // The n patches and the k candidates.
-fn look(patches: &[u64], n: usize, candidates: &[f64], blob_index: &[u32], k: usize) {
-    let end = 7 * least(n, patches.len() / 7);
+fn lists(patches: &[u64], n: usize, candidates: &[f64], blob_index: &[u32], k: usize) {
+    let end = 7 * min(n, patches.len() / 7);
     let records = [n as u64, sum::of_numbers(&patches[..end])];
     line(b"patches", &records);
     let count = [k as u64];
     line(b"candidates", &count);
-    let most = least(k, least(candidates.len() / 4, blob_index.len()));
+    let most = min(k, min(candidates.len() / 4, blob_index.len()));
     for i in 0..most {
         candidate(candidates, blob_index, i);
     }

@@ -1,5 +1,6 @@
 // The planes of a picture of 40 by 36 under the frame 192, 192, 1, 48, printed. The expected output
-// is the original's: host/vectors/src/bin/mask.rs says what stdin holds, and how to make both again.
+// is the original's: host/vectors/src/bin/mask.rs says what stdin holds, and how to make both
+// again.
 use frame::FrameSpec;
 ghost use Prim.Native.Nat.{_≤_};
 ghost use mathlib.Core.Path.{_≡_};

@@ -3,6 +3,7 @@
 // candidates of a capture of 64 by 64 as with the patches. stdin: the mask's nine bytes, the
 // picture's 27 and the capture's 12,288. The expected output is the original's (host/vectors,
 // forms).
+use base::min;
 use blobs::Blob;
 use candidates::Candidate;
 use frame::FrameSpec;
@@ -12,7 +13,7 @@ use frame::Verdict;
 use view::Pixel;
 use view::internal::pixel_at;
 ghost use mathlib.Core.Path.{_≡_};
-ghost use Prim.Native.Nat.{_+_, _*_, _≤_, _<_, min};
+ghost use Prim.Native.Nat.{_+_, _*_, _≤_, _<_};
 ghost use lib.ListN.{length, replicate, set};
 ghost use Rattle.base.specs.Loops.{filled};
 ghost use Rattle.blobs.specs.Patches.{recordLength, patchAt};
@@ -25,7 +26,7 @@ fn main() {
     label(&mask);
     let mut picture = [0u8; 27];
     io::read_full(0, &mut picture);
-    look(&picture);
+    print_pixels(&picture);
     let mut capture = [0u8; 12288];
     io::read_full(0, &mut capture);
     find(&capture);
@@ -43,7 +44,7 @@ fn label(mask: &[u8]) {
     }
 }
 
-fn look(picture: &[u8]) {
+fn print_pixels(picture: &[u8]) {
     for p in 0..9 {
         print_pixel(pixel_at(picture, 3, 3, p % 3, p / 3));
     }
@@ -171,12 +172,6 @@ fn keep_candidates(candidates: &[f64], blob_index: &[u32], n: usize) -> [Candida
     list
 }
 
-fn five_at_most(n: usize) -> usize
-    ensures { λ r. ⌜ r ≡ min n 5 ⌝ }
-{
-    if n < 5 { n } else { 5 }
-}
-
 // ---- printing
 
 fn text(s: &[u8]) {
@@ -203,7 +198,7 @@ fn print_patches(patches: &[u64], n: usize)
     text(b"3 3 ");
     number(n as u64);
     text(b"\n");
-    fetch_patches(patches, five_at_most(n));
+    fetch_patches(patches, min(n, 5));
 }
 
 fn fetch_patches(patches: &[u64], n: usize)
@@ -232,7 +227,7 @@ fn print_candidates(candidates: &[f64], blob_index: &[u32], n: usize)
     text(b"64 64 ");
     number(n as u64);
     text(b"\n");
-    fetch_candidates(candidates, blob_index, five_at_most(n));
+    fetch_candidates(candidates, blob_index, min(n, 5));
 }
 
 fn fetch_candidates(candidates: &[f64], blob_index: &[u32], n: usize)

@@ -1,6 +1,6 @@
-// Runs `bilinear` on outside vectors, and prints each colour as six hexadecimal digits. The expected
-// output is the original's: host/vectors/src/bin/sampling.rs says what stdin holds, and how to make
-// both again.
+// Runs `bilinear` on outside vectors, and prints each colour as six hexadecimal digits. The
+// expected output is the original's: host/vectors/src/bin/sampling.rs says what stdin holds, and
+// how to make both again.
 use sampling::Colour;
 
 // The picture is 5 by 4, in 60 bytes; the places follow from byte 64 on.
@@ -20,7 +20,7 @@ fn run(b: &[u8]) {
     }
 }
 
-// Document 01: 0 and 255 side by side read at (1.0, 0.5) give 127.
+// Requirement 15.3: 0 and 255 side by side read at (1.0, 0.5) give 127.
 fn examples() {
     let two: [u8; 6] = [0, 0, 0, 255, 255, 255];
     print(sampling::bilinear(&two, 2, 1, 1.0, 0.5));

@@ -1,5 +1,6 @@
 // Runs the lens search on outside vectors, over four points that are handed in:
 // host/vectors/src/bin/search.rs says what stdin and stdout hold, and how to make them again.
+use base::min;
 use fit::GeometryFit;
 use fit::Grade;
 use fit::internal::sampled_cells;
@@ -11,8 +12,7 @@ use frame::internal::frame_outside;
 use search::Outcome;
 use search::Stage;
 use search::internal::search;
-ghost use mathlib.Core.Path.{_≡_};
-ghost use Prim.Native.Nat.{_+_, _≤_, min};
+ghost use Prim.Native.Nat.{_+_, _≤_};
 
 // A record at a time, to the end of stdin. The means are not cleared between two records.
 fn main() {
@@ -31,12 +31,12 @@ fn main() {
 
 // Reads the capture behind the record; none keeps the one before.
 fn load(b: &[u8], capture: &mut [u8]) {
-    let n = least(size_at(b, 0), capture.len());
+    let n = min(size_at(b, 0), capture.len());
     io::read_full(0, &mut capture[..n]);
 }
 
 fn answer(b: &[u8], capture: &[u8], means: &mut [f64]) {
-    let n = least(size_at(b, 1), capture.len());
+    let n = min(size_at(b, 1), capture.len());
     searched(
         &capture[..n],
         size_at(b, 2),
@@ -63,12 +63,6 @@ fn searched(capture: &[u8], w: usize, h: usize, frame: FrameSpec, quad: Quad, me
 }
 
 // ---- arguments
-
-fn least(a: usize, b: usize) -> usize
-    ensures { λ r. ⌜ r ≡ min a b ⌝ }
-{
-    if a < b { a } else { b }
-}
 
 fn size_at(b: &[u8], i: usize) -> usize {
     vectors::word(b, i) as usize

@@ -1,7 +1,8 @@
-// Calls every exported function by position, with no two numbers of a call alike, and prints what it
-// answers and writes. Contracts name parameters, not their places: a library in which two have changed
-// places still keeps its promises, and is caught here. The expected output is the original's:
-// host/vectors/src/bin/tablet.rs says what stdin and stdout hold, and how to make them again.
+// Calls every exported function by position, with no two numbers of a call alike, and prints what
+// it answers and writes. Contracts name parameters, not their places: a library in which two have
+// changed places still keeps its promises, and is caught here. The expected output is the
+// original's: host/vectors/src/bin/tablet.rs says what stdin and stdout hold, and how to make them
+// again.
 mod looks; // looks.rt: the functions that look at the whole capture
 mod print; // print.rt: words on lines
 

@@ -1,16 +1,10 @@
 // Words on lines, 16 hexadecimal digits each: numbers of an area from one place up to another.
-ghost use mathlib.Core.Path.{_≡_};
-ghost use Prim.Native.Nat.{_≤_, min};
+use base::min;
+ghost use Prim.Native.Nat.{_≤_};
 
 pub(crate) fn word(w: u64) {
     let line = vectors::hex_line(w);
     io::write_all(1, &line);
-}
-
-fn least(a: usize, b: usize) -> usize
-    ensures { λ r. ⌜ r ≡ min a b ⌝ }
-{
-    if a < b { a } else { b }
 }
 
 fn wide(x: u32) -> u64 {
@@ -18,25 +12,25 @@ fn wide(x: u32) -> u64 {
 }
 
 pub(crate) fn words(a: &[u64], from: usize, to: usize) {
-    for i in from..least(to, a.len()) {
+    for i in from..min(to, a.len()) {
         word(a[i]);
     }
 }
 
 pub(crate) fn shorts(a: &[u32], from: usize, to: usize) {
-    for i in from..least(to, a.len()) {
+    for i in from..min(to, a.len()) {
         word(wide(a[i]));
     }
 }
 
 pub(crate) fn floats(a: &[f64], from: usize, to: usize) {
-    for i in from..least(to, a.len()) {
+    for i in from..min(to, a.len()) {
         word(vectors::bits(a[i]));
     }
 }
 
 pub(crate) fn singles(a: &[f32], from: usize, to: usize) {
-    for i in from..least(to, a.len()) {
+    for i in from..min(to, a.len()) {
         word(wide(vectors::bits32(a[i])));
     }
 }

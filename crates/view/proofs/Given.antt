@@ -1,6 +1,6 @@
 -- What the functions over a view require, and the answers of `pixel_at`, by its tests. Assumes nothing.
-use mathlib.Core.Path.{_≡_, refl, sym, ap, _∙_}
-use mathlib.Core.Bool.{Bool, true, false, _&&_}
+use mathlib.Core.Path.{_≡_, sym, ap, _∙_}
+use mathlib.Core.Bool.{Bool, true, false}
 use Prim.Native.Nat.{ℕ, _<_, _≤_}
 use lib.Dec.{ltb}
 use borrow.Author.Tests.{lt-ltb, le-ltb}
@@ -10,7 +10,7 @@ use Rattle.frame.specs.Limits.{CaptureHeld}
 use Rattle.frame.specs.Refusals.{lowestOf, captureTests, captureWrong}
 use Rattle.frame.specs.declared.Rgb.{Rgb}
 use Rattle.frame.proofs.Lowest.{lowest-first, lowest-next, lowest-none}
-use Rattle.frame.proofs.Tests.{and-both}
+use Rattle.base.proofs.Tests.{and-both, not-first, not-second}
 use Rattle.view.specs.declared.RgbImage.{RgbImage}
 use Rattle.view.specs.Views.{inside, pixelAs, pixelOf}
 use Rattle.view.specs.declared.Pixel.the-variants as P
@@ -18,13 +18,6 @@ use Rattle.view.specs.declared.Pixel.the-variants as P
 -- what `px` requires of a view and a place
 abbrev pub Within : RgbImage → ℕ → ℕ → Type 0
 Within d x y = CaptureHeld (image (d .w) (d .h) (now (d .«data»))) × (x < d .w) × (y < d .h)
-
-and-first : (a b : Bool) → a ≡ false → a && b ≡ false
-and-first a b e = ap (λ (t : Bool). t && b) e
-
-and-second : (a b : Bool) → b ≡ false → a && b ≡ false
-and-second true b e = e
-and-second false b e = refl
 
 as-refused : (n : ℕ) (t : Bool) (c : Rgb) → n ≡ 2 → P.Refused 2 ≡ pixelAs n t c
 unfolding pixelAs
@@ -53,11 +46,11 @@ module _ (img : Image) (x y : ℕ) where
 
   pub past-right : captureWrong img ≡ false → img .w ≤ x → P.Outside ≡ pixelOf img x y
   unfolding inside
-  past-right e l = outside e (and-first _ _ (le-ltb x (img .w) l))
+  past-right e l = outside e (not-first _ (le-ltb x (img .w) l))
 
   pub below : captureWrong img ≡ false → img .h ≤ y → P.Outside ≡ pixelOf img x y
   unfolding inside
-  below e l = outside e (and-second (ltb x (img .w)) _ (le-ltb y (img .h) l))
+  below e l = outside e (not-second (ltb x (img .w)) (le-ltb y (img .h) l))
 
   pub is : captureWrong img ≡ false → x < img .w → y < img .h → P.Is (px img x y) ≡ pixelOf img x y
   unfolding pixelOf inside

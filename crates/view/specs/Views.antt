@@ -1,4 +1,4 @@
--- Reading a pixel through the view (document 01, "a read view holding w, h and the lent bytes"). Assumes nothing.
+-- Reading a pixel through the view (requirements, 16.9). Assumes nothing.
 use Prim.Native.Nat.{ℕ, zero, suc}
 use mathlib.Core.Bool.{Bool, true, false, _&&_}
 use lib.Dec.{ltb}
@@ -24,6 +24,7 @@ pixelAs (suc n) has c = P.Refused (suc n)
 unfoldable pub inside : Image → ℕ → ℕ → Bool
 inside img x y = ltb x (img .w) && ltb y (img .h)
 
--- "2: capture side outside its limit, or byte length wrong"; else the colour by `px`, where there is such a pixel
+-- [2.2] 2: a capture side is outside its limit, or the number of bytes is wrong; else the colour by `px`, where there
+-- is such a pixel
 unfoldable pub pixelOf : Image → ℕ → ℕ → Pixel
 pixelOf img x y = pixelAs (lowestOf (captureTests img)) (inside img x y) (px img x y)

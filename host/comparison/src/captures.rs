@@ -29,7 +29,7 @@ fn looked(m: &Memory, counts: &[u64], a: &Answer) -> Result<(), String> {
     each("integral", &m.integral, &look.integral, bits)?;
     each("mask", &m.mask, &look.mask, |b| b)?;
     each("marks", &m.seen, &look.mask, |b| b)?;
-    listed(&m.patches, counts[ffi::PATCHES], counts[ffi::WAITING], &look.patches)?;
+    listed(&m.patches, counts[ffi::PATCHES], counts[ffi::WAITED], &look.patches)?;
     let k = counts[ffi::CANDIDATES] as usize;
     eq("number of candidates", k, look.candidates.len())?;
     each("candidates", &m.candidates[..4 * k], look.candidates.as_flattened(), bits)?;
@@ -37,12 +37,12 @@ fn looked(m: &Memory, counts: &[u64], a: &Answer) -> Result<(), String> {
     each("places", &m.blob_index[..k], &places, |p| p)
 }
 
-fn listed(ours: &[u64], count: u64, waiting: u64, theirs: &[[u64; 7]]) -> Result<(), String> {
+fn listed(ours: &[u64], count: u64, waited: u64, theirs: &[[u64; 7]]) -> Result<(), String> {
     eq("number of patches", count as usize, theirs.len())?;
     each("patches", &ours[..7 * theirs.len()], theirs.as_flattened(), |n| n)?;
     let largest = theirs.iter().map(|p| p[0]).max().unwrap_or(0);
-    if waiting > largest || (waiting == 0) != theirs.is_empty() {
-        return Err(format!("{waiting} waiting, and the largest area is {largest}"));
+    if waited > largest || (waited == 0) != theirs.is_empty() {
+        return Err(format!("{waited} waited, and the largest area is {largest}"));
     }
     Ok(())
 }

@@ -84,8 +84,8 @@ fn frame_outside(f: Frame) -> bool {
     !(side(f.width) && side(f.height) && (1..=512).contains(&f.cell) && f.margin <= 4096)
 }
 
-/// The lowest refusal, by document 01: a list of numbers and whether each applies. `seen` is the original's number for what passes
-/// 1 to 6.
+/// The lowest refusal (docs/REQUIREMENTS.md, 2.12): a list of numbers and whether each applies. `seen` is the
+/// original's number for what passes 1 to 6.
 fn lowest(c: &Call, seen: u32) -> u32 {
     let (f, m, case) = (c.case.frame, &c.memory, &c.case);
     let frame_bad = frame_outside(f);

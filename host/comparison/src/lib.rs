@@ -26,7 +26,7 @@ pub fn bits(x: f64) -> u64 {
     }
 }
 
-/// Sizes of a look's work areas, worked out here from document 01 and not asked of the library.
+/// Sizes of a look's work areas, worked out here from docs/REQUIREMENTS.md, 3.1, and not asked of the library.
 #[derive(Clone, Copy)]
 pub struct Sizes {
     pub pixels: usize,

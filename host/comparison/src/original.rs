@@ -1,4 +1,4 @@
-//! The original's answers, with the refusal numbers that document 01 gives to its `None`s.
+//! The original's answers, with the refusal numbers that docs/REQUIREMENTS.md gives to its `None`s.
 
 use crate::{sampled, Case};
 use flatten::Frame;

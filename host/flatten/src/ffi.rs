@@ -10,7 +10,7 @@ use crate::Frame;
 /// Entries of the counts.
 pub const PATCHES: usize = 0;
 pub const CANDIDATES: usize = 1;
-pub const WAITING: usize = 2;
+pub const WAITED: usize = 2;
 pub const PLACES: usize = 3;
 pub const TRIALS: usize = 7;
 pub const HOMOGRAPHIES: usize = 8;

@@ -76,7 +76,7 @@ pub fn report(about: &About, workspace: Option<&Workspace>, answer: &Result<Rect
         ("phase", of_fit(&|r| float(r.phase))),
         ("doubtful", of_fit(&|r| r.doubtful().to_string())),
         ("patches", of_look(&|w| w.patches().len().to_string())),
-        ("waiting", of_look(&|w| w.waiting().to_string())),
+        ("waited", of_look(&|w| w.waited().to_string())),
         ("candidates", of_look(&candidates)),
         ("corners", of_fit(&|r| format!("[{}]", r.corners.map(|c| c.to_string()).join(", ")))),
         ("matrix", of_fit(&|r| floats(r.fit.matrix()))),
@@ -129,7 +129,7 @@ mod tests {
             format!(
                 "{{\"version\": \"{version}\", \"file\": \"a \\\"b\\\"\\\\\\u000a.ppm\", \"sides\": [1280, 720], \
                  \"frame\": [848, 636, 10, 106], \"refusal\": 1, \"score\": null, \"phase\": null, \"doubtful\": null, \
-                 \"patches\": null, \"waiting\": null, \"candidates\": null, \"corners\": null, \
+                 \"patches\": null, \"waited\": null, \"candidates\": null, \"corners\": null, \
                  \"matrix\": null, \"k\": null, \"cx\": null, \"cy\": null, \"norm\": null, \"grade\": null, \
                  \"trials\": null, \"homographies\": null}}\n"
             )

@@ -252,7 +252,7 @@ impl Workspace {
         self.last = Some(number);
         Refusal::check(number)?;
         self.counts = [0; ffi::COUNTS_LEN];
-        (self.counts[ffi::PATCHES], self.counts[ffi::WAITING]) = (found[0], found[1]);
+        (self.counts[ffi::PATCHES], self.counts[ffi::WAITED]) = (found[0], found[1]);
         Ok(())
     }
 
@@ -298,8 +298,8 @@ impl Workspace {
     }
 
     /// The most pixels that waited at once while patches were traced.
-    pub fn waiting(&self) -> usize {
-        self.count(ffi::WAITING)
+    pub fn waited(&self) -> usize {
+        self.count(ffi::WAITED)
     }
 
     /// Trials tried and homographies found by the last call, up to a refusal by 10 or more; 0 before.

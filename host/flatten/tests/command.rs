@@ -60,7 +60,7 @@ fn a_refusal_writes_no_card() {
     assert_eq!(
         folder.text("report.json").split_once("\"file\": ").unwrap().1,
         "null, \"sides\": [64, 64], \"frame\": [192, 192, 1, 48], \"refusal\": 7, \"score\": null, \"phase\": null, \
-         \"doubtful\": null, \"patches\": 0, \"waiting\": 0, \"candidates\": [], \"corners\": null, \"matrix\": null, \"k\": null, \
+         \"doubtful\": null, \"patches\": 0, \"waited\": 0, \"candidates\": [], \"corners\": null, \"matrix\": null, \"k\": null, \
          \"cx\": null, \"cy\": null, \"norm\": null, \"grade\": null, \"trials\": null, \"homographies\": null}\n"
     );
 }

@@ -22,7 +22,7 @@ fn one_workspace_serves_many_captures() {
     let at = first.corners.map(|place| ws.candidates().find(|c| c.place == place).unwrap());
     assert!(at[0].x < at[1].x && at[3].x < at[2].x && at[0].y < at[3].y && at[1].y < at[2].y);
     let dark: u64 = ws.patches().map(|p| p.area).sum();
-    assert!(dark > 0 && ws.waiting() > 0);
+    assert!(dark > 0 && ws.waited() > 0);
 
     // A refusal leaves the card of the call before, and shows what it found.
     let refusal = ws.rectify(&vec![255; 3 * 192 * 192]).unwrap_err();
@@ -81,7 +81,7 @@ fn patches_of_a_mask() {
     let one = |x: u64, y: u64| Patch { area: 1, sum_x: x, sum_y: y, x0: x, y0: y, x1: x, y1: y };
     let three = Patch { area: 3, sum_x: 1, sum_y: 2, x0: 0, y0: 0, x1: 1, y1: 1 };
     assert_eq!(found, [three, one(4, 0), one(3, 1), one(4, 3)]);
-    assert!(ws.candidates().len() == 0 && (1..=3).contains(&ws.waiting()));
+    assert!(ws.candidates().len() == 0 && (1..=3).contains(&ws.waited()));
     // After a refusal there is nothing to read.
     assert_eq!(ws.label_blobs(&mask[1..]).map_err(Refusal::number), Err(2));
     assert_eq!(ws.patches().len(), 0);
@@ -118,7 +118,7 @@ fn frames_in_words() {
     assert_eq!(Frame::BENCH.grid().unwrap(), (63, 42));
 }
 
-/// The lengths that the library names are those of document 01, and one entry less is refused by 3.
+/// The lengths that the library names are those of docs/REQUIREMENTS.md, 3.1, and one entry less is refused by 3.
 #[test]
 fn smallest_lengths() {
     let mut n = [0; ffi::LENGTHS_LEN];

@@ -69,15 +69,14 @@ impl Measured {
     pub fn print(&self) {
         println!("\n## {}\n\n{}\n", self.title, self.drawn);
         println!(
-            "| {} | ordinary | accepted | refused by | cells read right | right | error | score | phase | flagged | wrong | error | score \
-             | phase | flagged |",
+            "|{}|ordinary|accepted|by|read|right|error|score|phase|flagged|wrong|error|score|phase|flagged|",
             self.column
         );
         println!("|---|---|---|---|---|---|---|---|---|---|---|---|---|---|---|");
         for t in &self.rows {
             let accepted = t.laid().count();
             println!(
-                "| {} | {} | {accepted} of {} | {} | {} | {} | {} |",
+                "|{}|{}|{accepted} of {}|{}|{}|{}|{}|",
                 t.label,
                 if t.ordinary { "yes" } else { "" },
                 t.outcomes.len(),
@@ -96,7 +95,7 @@ fn range(values: impl Iterator<Item = f64> + Clone, show: impl Fn(f64) -> String
     if low == high {
         low
     } else {
-        format!("{low} to {high}")
+        format!("{low}–{high}")
     }
 }
 
@@ -133,12 +132,12 @@ fn share_read<'a>(laid: impl Iterator<Item = &'a Laid>) -> String {
 /// How many, greatest error, scores, phases, and how many the first three rules flag.
 fn block(cards: &[&Laid]) -> String {
     if cards.is_empty() {
-        return "0 | | | | ".into();
+        return "0||||".into();
     }
     let error = cards.iter().map(|c| c.error).fold(0.0, f64::max);
     let flagged = |rule: &Rule| cards.iter().filter(|c| (rule.flags)(c)).count().to_string();
     format!(
-        "{} | {} | {} | {} | {}",
+        "{}|{}|{}|{}|{}",
         cards.len(),
         pixels(error),
         range(cards.iter().map(|c| c.score()), score),

@@ -1,14 +1,13 @@
 -- `blobs::label_blobs` meets its contract. Assumes nothing.
-use Prim.Native.Nat.{_≤_}
 use native.Mathlib.Omega.{arith}
 use mathlib.Core.Path.{_≡_, refl, sym, ap, _∙_}
 use denote.Ref.{now}
 use borrow.Author.Needs.{needs}
 use lib.ListN.{length}
 use Rattle.frame.specs.Refusals.{lowestOf, verdictOf}
-use Rattle.frame.proofs.Given.{verdict-accepted}
+use Rattle.frame.proofs.Given.{verdict-accepted, refused-is}
 use Rattle.blobs.specs.Contracts.{patchTests}
-use Rattle.blobs.proofs.Refused.{refused-is, passes, sized}
+use Rattle.blobs.proofs.Refused.{passes, sized}
 use Rattle.blobs.proofs.label_blobs.Statement.{statement}
 use Rattle.blobs.proofs.label_blobs.Tie as tie
 
@@ -18,22 +17,18 @@ refusal-requires c κs = search needs
 returns : tie.Need-returns
 returns c =
     let r = c .before .refusal in
-    let some : 1 ≤ r .result = omega (arith, c .if1 .taken) in
     record {
-      given = refused-is (r .result) some ∙ ap verdictOf (r .ensures);
+      given = refused-is (r .result) (c .if1 .taken) ∙ ap verdictOf (r .ensures);
       accepted = λ z. absurd (c .if1 .taken (r .ensures ∙ z));
-      untouched = λ z. (refl, refl, refl, refl, refl);
+      untouched = λ z. (refl, refl, refl);
     }
 
 label-requires : tie.Need-label-requires
 label-requires c κs =
-    let a = c .before .before .before .before .before .before .before .before .before .args in
-    let p = passes (c .before .before .before .before .before .before .before .before .before .args .w) (c .before .before .before .before
-    .before .before .before .before .before .args .h) (length (now (c .before .before .before .before .before .before .before .before
-    .before .args .mask))) (length (now (c .before .before .before .before .before .before .before .before .before .args .seen)))
-    (length (now (c .before .before .before .before .before .before .before .before .before .args .waiting)))
-    (length (now (c .before .before .before .before .before .before .before .before .before .args .patches))) (sym (c .before .before
-    .before .before .refusal .ensures) ∙ c .before .before .before .if1 .left) in
+    let entry = c .before .before .before .before .before .before .before .before .before .args in
+    let a = entry in
+    let p = passes (entry .w) (entry .h) (length (now (entry .mask))) (length (now (entry .seen))) (length (now (entry .waiting))) (length (now (entry
+    .patches))) (sym (c .before .before .before .before .refusal .ensures) ∙ c .before .before .before .if1 .left) in
     (sized (now (a .mask)) (a .w) (a .h) (p .0) (p .1), p .2, p .3, p .4)
 
 same-length : tie.Need-same-length
@@ -47,27 +42,18 @@ same-length-3 c = search needs
 
 returns-2 : tie.Need-returns-2
 returns-2 c =
-    let e : lowestOf (patchTests (c .before .before .before .before .before .before .before .before .before .before .before .before .before
-    .before .before .before .args .w) (c .before .before .before .before .before .before .before .before .before .before .before .before
-    .before .before .before .before .args .h) (length (now (c .before .before .before .before .before .before .before .before .before
-    .before .before .before .before .before .before .before .args .mask))) (length (now (c .before .before .before .before .before
-    .before .before .before .before .before .before .before .before .before .before .before .args .seen)))
-    (length (now (c .before .before .before .before .before .before .before .before .before .before .before .before .before .before
-    .before .before .args .waiting))) (length (now (c .before .before .before .before .before .before .before .before .before .before
-    .before .before .before .before .before .before .args .patches)))) ≡ 0 = sym (c .before .before .before .before .before .before
-    .before .before .before .before .before .refusal .ensures) ∙ c .before .before .before .before .before .before .before .before
-    .before .before .if1 .left in
+    let a = c .before .before .before .before .before .before .before .before .before .before .before .before .before .before .before .before .args in
+    let e : lowestOf (patchTests (a .w) (a .h) (length (now (a .mask))) (length (now (a .seen))) (length (now (a .waiting))) (length (now (a
+    .patches)))) ≡ 0 = sym (c .before .before .before .before .before .before .before .before .before .before .before .refusal .ensures) ∙ c .before
+    .before .before .before .before .before .before .before .before .before .if1 .left in
     record {
-      given = verdict-accepted (patchTests (c .before .before .before .before .before .before .before .before .before .before .before
-          .before .before .before .before .before .args .w) (c .before .before .before .before .before .before .before .before .before
-          .before .before .before .before .before .before .before .args .h) (length (now (c .before .before .before .before .before .before
-          .before .before .before .before .before .before .before .before .before .before .args .mask)))
-          (length (now (c .before .before .before .before .before .before .before .before .before .before .before .before .before .before
-          .before .before .args .seen))) (length (now (c .before .before .before .before .before .before .before .before .before .before
-          .before .before .before .before .before .before .args .waiting))) (length (now (c .before .before .before .before .before .before
-          .before .before .before .before .before .before .before .before .before .before .args .patches)))) e;
+      given = verdict-accepted (patchTests (a .w) (a .h) (length (now (a .mask))) (length (now (a .seen))) (length (now (a .waiting))) (length
+          (now (a .patches)))) e;
       accepted = λ z. c .before .before .before .before .before .before .label .ensures;
-      untouched = λ z. absurd (omega (arith, e));
+      untouched = λ z. absurd (omega (
+        arith,
+        e,
+      ));
     }
 
 pub label-blobs-spec : {M : Type 1} → statement M

@@ -2,7 +2,8 @@
 use native.Mathlib.Omega.{arith}
 use mathlib.Core.Path.{refl, sym, ap, _∙_}
 use Rattle.frame.specs.Refusals.{verdictOf}
-use Rattle.candidates.proofs.Looks.{verdict-refused, verdict-accepted, ready}
+use Rattle.frame.proofs.Given.{refused-is, accepted-is}
+use Rattle.candidates.proofs.Looks.{ready}
 use Rattle.candidates.proofs.fiducial_candidates.Statement.{statement}
 use Rattle.candidates.proofs.fiducial_candidates.Tie as tie
 
@@ -14,7 +15,7 @@ returns c =
     let e = c .before .refused .ensures in
     let n = c .if1 .taken in
     record {
-      given = verdict-refused _ n ∙ ap verdictOf e;
+      given = refused-is _ n ∙ ap verdictOf e;
       accepted = λ z. absurd (n (e ∙ z));
       refused = λ z. (refl, refl, refl, refl);
     }
@@ -56,7 +57,7 @@ returns-2 c =
     let e = sym (after c .before .before .before .before .before .before .before .before .before .before .refused .ensures)
     ∙ after c .before .before .before .before .before .before .before .before .before .if1 .left in
     record {
-      given = verdict-accepted _ e;
+      given = accepted-is _ e;
       accepted = λ z. after c .look .ensures;
       refused = λ z. absurd (omega (arith, e, z));
     }

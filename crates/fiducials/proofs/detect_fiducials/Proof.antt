@@ -1,6 +1,7 @@
 -- `fiducials::detect_fiducials` meets its contract. Assumes nothing.
 use mathlib.Core.Path.{sym, _∙_}
-use Rattle.candidates.proofs.Looks.{verdict-refused, ready}
+use Rattle.frame.proofs.Given.{refused-is}
+use Rattle.candidates.proofs.Looks.{ready}
 use Rattle.fiducials.proofs.Detects.{detection-refused, detection-found}
 use Rattle.fiducials.proofs.detect_fiducials.Statement.{statement}
 use Rattle.fiducials.proofs.detect_fiducials.Tie as tie
@@ -17,7 +18,7 @@ no-places-requires c κs = tt
 returns : tie.Need-returns
 returns c =
     let n = c .before .before .if1 .taken in
-    detection-refused _ _ _ _ _ _ _ (c .before .before .before .refused .ensures) n (verdict-refused _ n) (c .before .no-quad .ensures) (c .no-places .ensures)
+    detection-refused _ _ _ _ _ _ _ (c .before .before .before .refused .ensures) n (refused-is _ n) (c .before .no-quad .ensures) (c .no-places .ensures)
 
 detect-requires : tie.Need-detect-requires
 detect-requires c κs = ready _ _ _ (sym (c .before .before .before .before .before .before .before .before .before .refused .ensures)

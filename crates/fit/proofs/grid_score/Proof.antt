@@ -1,6 +1,6 @@
 -- `fit::grid_score` meets its contract. Assumes nothing.
-use Rattle.fit.proofs.Lent.{lent-length, lent-rest}
-use lib.Seq.{length-take-le}
+use Rattle.base.proofs.Parts.{lent-rest}
+use lib.Seq.{length-take-le, length-front}
 use borrow.Author.Tests.{lt-ltb, le-ltb}
 use lib.Dec.{ltb}
 use Rattle.frame.specs.Image.{image}
@@ -67,9 +67,10 @@ grade-requires c κs =
     (capture-held _ d, frame-held _ e, length-take-le _ _ (omega arith) ∙ c .before .before .sampled-cells .ensures .0)
 
 same-length : tie.Need-same-length
-same-length c = lent-length (c .before .before .grade .last .1 .1 .1 .1 .1 .0) (c .before .before .before .before .before .before .before
-    .before .before .before .before .before .args .means .now) (c .before .before .before .before .before .sampled-cells .result)
-    (omega arith) (c .before .before .grade .kept .1 .1 .1 .1 .1 .0)
+same-length c =
+    length-front (c .before .before .before .before .before .before .before .before .before .before .before .before .args .means .now)
+    (c .before .before .grade .last .1 .1 .1 .1 .1 .0) (c .before .before .before .before .before .sampled-cells .result)
+    (c .before .before .grade .kept .1 .1 .1 .1 .1 .0)
 
 returns-4 : tie.Need-returns-4
 unfolding gridTests meansShort
@@ -87,7 +88,7 @@ returns-4 c =
     record {
       given = scored-is _ z (c .before .before .grade .ensures);
       means-rest = (
-        lent-length (c .before .before .grade .last .1 .1 .1 .1 .1 .0) (a .means .now) n h (c .before .before .grade .kept .1 .1
+        length-front (a .means .now) (c .before .before .grade .last .1 .1 .1 .1 .1 .0) n (c .before .before .grade .kept .1 .1
             .1 .1 .1 .0),
         lent-rest (c .before .before .grade .last .1 .1 .1 .1 .1 .0) (a .means .now) n _ h (c .before .before .grade .kept
             .1 .1 .1 .1 .1 .0) (c .before .before .before .before .before .sampled-cells .ensures .0),

@@ -15,10 +15,10 @@ returns : tie.Need-returns
 returns c = fit-refused _ _ _ _ _ _ (c .before .before .refused .ensures) (c .before .if1 .taken) (c .refused-by-test .ensures)
 
 fit-picture-requires : tie.Need-fit-picture-requires
-fit-picture-requires c κs = fit-ready _ _ _ (c .before .before .before .before .before .before .before .before .before .before .before
-    .before .before .before .before .before .before .before .before .before .before .args .means .now) (sym (c .before .before .before
-    .before .before .before .before .before .before .before .refused .ensures) ∙ c .before .before .before .before .before .before .before
-    .before .before .if1 .left)
+fit-picture-requires c κs =
+    let b = c .before .before .before .before .before .before .before .before .before in
+    fit-ready _ _ _ (b .before .before .before .before .before .before .before .before .before .before .before .before .args .means .now) (sym (b
+    .before .refused .ensures) ∙ b .if1 .left)
 
 answer-requires : tie.Need-answer-requires
 answer-requires c κs = search needs
@@ -60,12 +60,11 @@ same-length-9 c = c .before .before .before .before .before .before .before .bef
     .before .before .before .before .fit-picture .kept .1 .1 .1 .1 .1 .1 .1 .1 .1 .1 .1 .1 .0
 
 returns-2 : tie.Need-returns-2
-returns-2 c = fit-reported _ _ _ _ _ _ _ _ (sym (c .before .before .before .before .before .before .before .before .before .before .before
-    .before .before .before .before .before .before .before .before .before .before .before .before .before .before .before .before .before
-    .before .before .refused .ensures) ∙ c .before .before .before .before .before .before .before .before .before .before .before .before
-    .before .before .before .before .before .before .before .before .before .before .before .before .before .before .before .before .before
-    .if1 .left) (c .before .before .before .before .before .before .before .before .before .before .before .before .before .before .before
-    .before .before .before .before .fit-picture .ensures) (c .answer .ensures)
+returns-2 c =
+    let b = c .before .before .before .before .before .before .before .before .before .before .before .before .before .before .before .before .before
+    .before .before in
+    fit-reported _ _ _ _ _ _ _ _ (sym (b .before .before .before .before .before .before .before .before .before .before .before .refused .ensures) ∙
+    b .before .before .before .before .before .before .before .before .before .before .if1 .left) (b .fit-picture .ensures) (c .answer .ensures)
 
 pub fit-geometry-spec : {M : Type 1} → statement M
 fit-geometry-spec =

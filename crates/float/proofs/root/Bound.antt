@@ -16,7 +16,7 @@ use lib.Ieee.Fits.{down-pos}
 use lib.Ieee.Scale.{finite}
 use lib.Ieee.Exact.{HasValue}
 use lib.Ieee.Positive.{positive}
-use Rattle.base.proofs.Plane.{le-or-lt}
+use Rattle.base.proofs.Arith.{le-or-lt}
 use Rattle.float.specs.Root.{inUnits, NearestRoot}
 use Rattle.float.proofs.Patterns.{shift, limits}
 use Rattle.float.proofs.root.Squares.{Nearest, sq-even, sq-next, sq-mono}

@@ -1,21 +1,23 @@
 -- The cases of `sqrt`: an x above zero by its pattern b, and the others. Assumes nothing.
 use mathlib.Core.Path.{_≡_, refl, sym, ap, _∙_, subst}
 use mathlib.Core.Logic.{inl, inr}
-use mathlib.Core.Bool.{Bool, true, false, not, true≢false}
+use mathlib.Core.Bool.{Bool, true, false, true≢false}
 use Prim.Native.Nat.{ℕ, zero, suc, _+_, _-_, _*_, _/_, _%_, _^_, _≤_, _<_}
-use native.Mathlib.Nat.{le-trans, le-of-eq, lt-of-lt-of-le, lt-of-le-of-lt, lt-of-not-le, lt-irrefl, mul-assoc, mul-right-comm, mul-le-mul-right, mod-eq-of-lt, mul-pos}
+use native.Mathlib.Nat.{le-trans, le-of-eq, lt-of-lt-of-le, lt-of-le-of-lt, mul-assoc, mul-right-comm, mul-le-mul-right, mod-eq-of-lt, mul-pos}
 use native.Mathlib.Omega.{arith}
 use lib.IntN.{ℤ}
-use lib.Dec.{T, leb, ltb, eqb, lit≤, ltb→lt, lt→ltb, nleb→lt, eqb→eq}
+use lib.Dec.{T, leb, ltb, eqb, lit≤, ltb→lt, lt→ltb, eqb→eq}
+use borrow.Author.Tests.{leb-false}
 use lib.Count.{leadingZeros, leading-top}
-use lib.Pow.{pow-add, pow-pos, pow-mono, shl-lt}
-use lib.Ieee.{Float, nan, inf, fin, binary64, up, down, units, fits, isNan, ofBits, toBits, lt, eq}
+use lib.Pow.{pow-add, pow-pos, shl-lt}
+use lib.Ieee.{Float, nan, inf, fin, binary64, up, down, units, fits, ofBits, toBits, lt, eq}
 use lib.Ieee.Fits.{up-pos, and-l, and-i, eq→eqb}
-use lib.Ieee.Bits.{ofBits-toBits, toBits-lt}
+use lib.Ieee.Bits.{toBits-lt}
 use lib.Ieee.Exact.{HasValue}
 use lib.Ieee.Positive.{positive, above, first-pos, value-pos}
 use Rattle.float.specs.Root.{nearestRoot, sqrtOf, NearestRoot}
-use Rattle.float.proofs.Patterns.{shift, Value, read}
+use Rattle.float.proofs.Numbers.{above-number}
+use Rattle.float.proofs.Patterns.{shift, pow-lt-back, Value, read-own}
 use Rattle.float.proofs.root.Scaled.{sqrt-at, nearest-at}
 
 -- ---- above zero
@@ -30,12 +32,6 @@ over-zero (fin false m e) h = lt→ltb 0 m (first-pos m (up e) (go (m * up e) (d
     go : (n d : ℕ) → 0 * d < n * 1 → 0 < n
     go n d h = omega arith
 
-pub over-number : (x : Float) → T (above x) → T (not (isNan x))
-unfolding isNan
-over-number nan h = absurd h
-over-number (inf s) h = tt
-over-number (fin s m e) h = tt
-
 -- a value with a fraction is finite, and its sign is clear
 finite : (x : Float) (s : Bool) (a c : ℕ) → T (above x) → HasValue x s a c → T (positive x) × (s ≡ false)
 finite nan s a c p h = absurd h
@@ -47,9 +43,6 @@ scaled : (x : Float) (s : Bool) (a c w : ℕ) → HasValue x s a c → HasValue 
 scaled nan s a c w h = h
 scaled (inf t) s a c w h = h
 scaled (fin t m e) s a c w h = (h .0, sym (mul-assoc (m * up e) c w) ∙ ap (λ (z : ℕ). z * w) (h .1) ∙ mul-right-comm a (down e) w)
-
-pow-lt-back : (i p : ℕ) → 2 ^ i < 2 ^ p → i < p
-pow-lt-back i p h = lt-of-not-le (λ (g : p ≤ i). lt-irrefl (2 ^ i) (lt-of-lt-of-le h (pow-mono g)))
 
 -- the root of d * 2 ^ (g + 50) units is that of x
 pub record Rooted (d g : ℕ) (x : Float) : Type 0 where
@@ -67,14 +60,10 @@ module _ (x : Float) (F : T (fits binary64 x)) (A : T (above x)) where
   B = toBits-lt binary64 x F
 
   value : Value (leb (2 ^ 63) b) (b % 2 ^ 63 / 2 ^ 52) (b % 2 ^ 52) x
-  value = subst (λ (y : Float). Value (leb (2 ^ 63) b) (b % 2 ^ 63 / 2 ^ 52) (b % 2 ^ 52) y) (ofBits-toBits binary64 x F)
-      (read b (subst (λ (y : Float). T (not (isNan y))) (sym (ofBits-toBits binary64 x F)) (over-number x A)))
+  value = read-own x F (above-number x A)
 
   clear : (a c : ℕ) → HasValue x (leb (2 ^ 63) b) a c → HasValue x false a c
   clear a c h = subst (λ (s : Bool). HasValue x s a c) (finite x (leb (2 ^ 63) b) a c A h .1) h
-
-  under : leb (2 ^ 63) b ≡ false → b < 2 ^ 63
-  under h = nleb→lt (2 ^ 63) b (subst (λ (s : Bool). T (not s)) (sym h) tt)
 
   -- ---- subnormal: the digits are moved up to a leading one at 52
   sub-value : b < 2 ^ 52 → HasValue x false (b * 1) (2 ^ 1074)
@@ -184,8 +173,8 @@ module _ (x : Float) (F : T (fits binary64 x)) (A : T (above x)) where
   pub infinite : 2047 * 2 ^ 52 ≤ b → x ≡ inf false
   infinite h =
       elim value [
-        | inl v ↦ absurd (none b h (under (finite x (leb (2 ^ 63) b) _ _ A (v .1) .1)) (v .0))
-        | inr (inl v) ↦ absurd (v .2 (last b (v .0) h (under (finite x (leb (2 ^ 63) b) _ _ A (v .3) .1)) (v .1)))
+        | inl v ↦ absurd (none b h (leb-false (2 ^ 63) b (finite x (leb (2 ^ 63) b) _ _ A (v .1) .1)) (v .0))
+        | inr (inl v) ↦ absurd (v .2 (last b (v .0) h (leb-false (2 ^ 63) b (finite x (leb (2 ^ 63) b) _ _ A (v .3) .1)) (v .1)))
         | inr (inr v) ↦ v .1 ∙ go (leb (2 ^ 63) b) (subst (λ (y : Float). T (above y)) (v .1) A)
       ]
     where

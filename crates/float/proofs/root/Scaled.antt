@@ -12,25 +12,15 @@ use lib.Ieee.Fits.{down-pos, odd-fits, cond-fits, inf-fits}
 use lib.Ieee.Bits.{ofBits-toBits, nanBits-is}
 use lib.Ieee.Exact.{HasValue, units-val}
 use lib.Ieee.Positive.{positive, positive-of-value}
+use Rattle.base.proofs.Arith.{zero-or-one}
 use Rattle.float.specs.Root.{inUnits, nearestRoot, sqrtOf, NearestRoot}
 use Rattle.float.proofs.root.Squares.{nearest-root, Nearest, sq-mono}
+use Rattle.float.proofs.Numbers.{units-number}
 use Rattle.float.proofs.Patterns.{shift, size-is, pattern}
 use Rattle.float.proofs.root.Bound.{in-units, bound}
-use Rattle.float.proofs.width.Ranges.{units-real}
 
-one-or-two : (g : ℕ) → (g % 2 ≡ 0) ⊎ (g % 2 ≡ 1)
-one-or-two g = go (g % 2) (lt g)
-  where
-    lt : (g : ℕ) → g % 2 < 2
-    lt g = omega arith
-
-    no : (w : ℕ) → suc (suc w) < 2 → ⊥
-    no w h = omega arith
-
-    go : (w : ℕ) → w < 2 → (w ≡ 0) ⊎ (w ≡ 1)
-    go zero h = inl refl
-    go (suc zero) h = inr refl
-    go (suc (suc w)) h = absurd (no w h)
+even-or-odd : (g : ℕ) → (g % 2 ≡ 0) ⊎ (g % 2 ≡ 1)
+even-or-odd g = zero-or-one (g % 2) (omega arith)
 
 pub four-pow : (k : ℕ) → 4 ^ k ≡ 2 ^ (k + k)
 four-pow zero = refl
@@ -44,7 +34,7 @@ module _ (d g : ℕ) (lo : 2 ^ 52 ≤ d) (hi : d < 2 ^ 53) (g-lo : 900 ≤ g) (g
   a = d * 2 ^ (g % 2)
 
   a-in : (2 ^ 52 ≤ a) × (a < 2 ^ 54)
-  a-in = elim (one-or-two g) [
+  a-in = elim (even-or-odd g) [
     | inl e ↦ subst (λ (z : ℕ). (2 ^ 52 ≤ d * 2 ^ z) × (d * 2 ^ z < 2 ^ 54)) (sym e) (omega arith, omega arith)
     | inr e ↦ subst (λ (z : ℕ). (2 ^ 52 ≤ d * 2 ^ z) × (d * 2 ^ z < 2 ^ 54)) (sym e) (omega arith, omega arith)
   ]
@@ -112,7 +102,7 @@ module _ (d g : ℕ) (lo : 2 ^ 52 ≤ d) (hi : d < 2 ^ 53) (g-lo : 900 ≤ g) (g
       ∙ ofBits-toBits binary64 (units binary64 false q k) in-format
 
   pub no-nan : T (not (nanBits binary64 (k * 2 ^ 52 + q)))
-  no-nan = subst (λ (b : Bool). T (not b)) (sym (nanBits-is binary64 (k * 2 ^ 52 + q) ∙ ap isNan is)) (units-real binary64 false q k)
+  no-nan = subst (λ (b : Bool). T (not b)) (sym (nanBits-is binary64 (k * 2 ^ 52 + q) ∙ ap isNan is)) (units-number binary64 false q k)
 
   pub pattern-lt : k * 2 ^ 52 + q < 2 ^ 64
   pattern-lt = go g q g-hi q-le

@@ -12,12 +12,11 @@ use lib.Pow.{pow-pos, pow-mono, pow-lt, shl-lt, shr-lt}
 use lib.Arith.{digits-div}
 use lib.Ieee.{Float, nan, inf, fin, Format, binary64, prec, emax, low, up, down, odd, units, round, neg, fits, isNan, toBits}
 use lib.Ieee.Fits.{down-pos, round-is, round-fits}
-use lib.Ieee.Bits.{ofBits-toBits}
 use lib.Ieee.Exact.{HasValue, round-exact}
 use lib.Ieee.Nearest.{div-same}
 use lib.Ieee.Back.{whole-unique}
 use Rattle.float.specs.Floats.{roundOf}
-use Rattle.float.proofs.Patterns.{shift, Value, read}
+use Rattle.float.proofs.Patterns.{shift, Value, read-own}
 
 -- ---- a rounded value, negated
 odd-neg : (d q k l : ℕ) → neg (odd d false q k l) ≡ odd d true q k l
@@ -109,7 +108,7 @@ module _ (x : Float) (F : T (fits binary64 x)) (N : T (not (isNan x))) where
   s = leb (2 ^ 63) b
 
   value : Value s (b % 2 ^ 63 / 2 ^ 52) (b % 2 ^ 52) x
-  value = subst (λ (y : Float). Value s (b % 2 ^ 63 / 2 ^ 52) (b % 2 ^ 52) y) (ofBits-toBits binary64 x F) (read b (subst (λ (y : Float). T (not (isNan y))) (sym (ofBits-toBits binary64 x F)) N))
+  value = read-own x F N
 
   digit-hi : (y : ℕ) → 2 ^ 52 + y % 2 ^ 52 < 2 ^ 53
   digit-hi y = omega arith

@@ -13,7 +13,7 @@ use lib.Ieee.{Float, nan, inf, fin, binary64, odd, fits, isNan, nanBits, ofField
 use lib.Ieee.Bits.{ofBits-toBits, nanBits-is, is-false}
 use lib.Ieee.Exact.{HasValue}
 use Rattle.float.specs.Floats.{absOf, signumOf}
-use Rattle.float.proofs.Patterns.{Value, read}
+use Rattle.float.proofs.Patterns.{read-own}
 use Rattle.base.proofs.Floats.{is-nan, not-nan}
 
 pub isNan-true : (x : Float) → ne x x ≡ true → isNan x ≡ true
@@ -85,10 +85,7 @@ module _ (x : Float) (F : T (fits binary64 x)) (N : T (not (isNan x))) where
 
   pub sign-bit : sign x ≡ leb (2 ^ 63) b
   sign-bit =
-      let v : Value (leb (2 ^ 63) b) (b % 2 ^ 63 / 2 ^ 52) (b % 2 ^ 52) x = subst (λ (y : Float). Value (leb (2 ^ 63) b) (b % 2 ^ 63 / 2 ^
-      52) (b % 2 ^ 52) y) (ofBits-toBits binary64 x F) (read b (subst (λ (y : Float). T (not (isNan y))) (sym (ofBits-toBits binary64 x
-      F)) N)) in
-      elim v [
+      elim (read-own x F N) [
         | inl h ↦ sign-of x _ _ _ (h .1)
         | inr (inl h) ↦ sign-of x _ _ _ (h .3)
         | inr (inr h) ↦ ap sign (h .1)

@@ -9,15 +9,8 @@ use lib.Pow.{pow-add, pow-pos, pow-mono, shl-lt}
 use lib.Ieee.{Float, nan, inf, fin, binary64, up, down, odd, units, round, fits, toUnsigned}
 use lib.Ieee.Fits.{down-pos, round-is}
 use lib.Ieee.Exact.{HasValue, round-exact}
-use Rattle.float.specs.Floats.{asUsize}
+use Rattle.float.specs.Floats.{floorOf, asUsize}
 use Rattle.float.proofs.Patterns.{shift, limits}
-
--- Rust's `f64::floor`: the whole number at x or next below it
-unfoldable pub floorOf : Float → Float
-floorOf nan = nan
-floorOf (inf s) = inf s
-floorOf (fin false m e) = round binary64 false (m * up e / down e) 1
-floorOf (fin true m e) = round binary64 true ((m * up e + (down e - 1)) / down e) 1
 
 -- what is below zero saturates
 negative : (q k : ℕ) → toUnsigned 64 (units binary64 true q k) ≡ 0

@@ -2,40 +2,28 @@
 use mathlib.Core.Path.{_≡_, refl, sym, ap, _∙_, subst}
 use mathlib.Core.Logic.{inl, inr}
 use mathlib.Core.Bool.{Bool, true, false, not, cond}
-use Prim.Native.Nat.{ℕ, zero, suc, _+_, _-_, _*_, _/_, _%_, _^_, _≤_, _<_}
+use Prim.Native.Nat.{ℕ, suc, _+_, _-_, _*_, _/_, _%_, _^_, _≤_, _<_}
 use native.Mathlib.Nat.{add-zero, mod-eq-of-lt, one-mul}
 use native.Mathlib.Omega.{arith}
-use lib.Dec.{T, leb, ltb, leb→le, nleb→lt}
+use lib.Dec.{T, leb, leb→le, nleb→lt}
 use lib.Pow.{pow-pos, pow-mono, pow-lt, mod-mod-pow}
 use native.Mathlib.Numerals.{add-one}
-use lib.Ieee.{Float, nan, inf, fin, Format, binary32, binary64, prec, emax, low, odd, units, round, isNan, fits, nanBits, toBits, ofBits}
+use lib.Ieee.{Float, nan, inf, fin, binary32, binary64, round, isNan, fits, nanBits, toBits, ofBits}
 use lib.Ieee.Fits.{round-fits, inf-fits, nan-fits, round-is}
 use lib.Ieee.Bits.{ofBits-toBits, toBits-lt, nanBits-is}
 use lib.Ieee.Exact.{HasValue}
 use Rattle.float.specs.Floats.{narrowed}
 use Rattle.float.proofs.width.Closest.{closest-up}
-use Rattle.float.proofs.Patterns.{Value, read, inf-pattern}
+use Rattle.float.proofs.Numbers.{units-number}
+use Rattle.float.proofs.Patterns.{Value, read-own, inf-pattern}
 use Rattle.float.proofs.width.Narrowing.{narrowed-at, normal, normal-bits, overflows, subnormal, subnormal-bits, nothing-left, closest-low-is}
 
--- ---- a value that is no NaN is the value of its pattern, and narrows to one that is no NaN
-odd-real : (d : ℕ) (s : Bool) (q k l : ℕ) → T (not (isNan (odd d s q k l)))
-unfolding odd isNan
-odd-real d s zero k l = tt
-odd-real d s (suc q) k l = tt
-
-pub units-real : (f : Format) (s : Bool) (q k : ℕ) → T (not (isNan (units f s q k)))
-unfolding units isNan
-units-real f s q k = go (odd (suc (prec f)) s q k (low f)) (ltb (q * 2 ^ k) (2 ^ (low f + suc (emax f)))) (odd-real (suc (prec f)) s q k (low f))
-  where
-    go : (y : Float) (b : Bool) → T (not (isNan y)) → T (not (isNan (cond b y (inf s))))
-    go y true h = h
-    go y false h = tt
-
+-- ---- a number is the value of its pattern, and narrows to a number
 narrowed-real : (x : Float) → T (not (isNan x)) → T (not (isNan (narrowed x)))
 unfolding narrowed isNan
 narrowed-real nan h = absurd h
 narrowed-real (inf s) h = tt
-narrowed-real (fin s m e) h = subst (λ (y : Float). T (not (isNan y))) (sym (round-is binary32 s _ _)) (units-real binary32 s _ _)
+narrowed-real (fin s m e) h = subst (λ (y : Float). T (not (isNan y))) (sym (round-is binary32 s _ _)) (units-number binary32 s _ _)
 
 narrowed-fits : (x : Float) → T (fits binary32 (narrowed x))
 unfolding narrowed
@@ -89,8 +77,7 @@ module _ (x : Float) (F : T (fits binary64 x)) (N : T (not (isNan x))) where
   B = toBits-lt binary64 x F
 
   value : Value (leb (2 ^ 63) b) (b % 2 ^ 63 / 2 ^ 52) (b % 2 ^ 52) x
-  value = subst (λ (y : Float). Value (leb (2 ^ 63) b) (b % 2 ^ 63 / 2 ^ 52) (b % 2 ^ 52) y) (ofBits-toBits binary64 x F)
-      (read b (subst (λ (y : Float). T (not (isNan y))) (sym (ofBits-toBits binary64 x F)) N))
+  value = read-own x F N
 
   -- from the pattern's magnitude
   to : (p : ℕ) → toBits binary32 (narrowed x) ≡ cond (leb (2 ^ 63) b) (2 ^ 31) 0 + p → Done x (b / 2 ^ 63 * 2 ^ 31 + p)

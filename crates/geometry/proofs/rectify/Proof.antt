@@ -18,61 +18,19 @@ returns c = rectify-refused _ _ _ _ _ (c .before .before .refused .ensures) (c .
 
 fit-picture-requires : tie.Need-fit-picture-requires
 fit-picture-requires c κs =
-    let p = passed _ _ (lent (areas (c .before .before .before .before .before .before .before .before .before .before .before .before
-    .before .before .before .before .before .before .before .before .before .before .args .luma .now) (c .before .before .before .before
-    .before .before .before .before .before .before .before .before .before .before .before .before .before .before .before .before
-    .before .before .args .integral .now) (c .before .before .before .before .before .before .before .before .before .before .before
-    .before .before .before .before .before .before .before .before .before .before .before .args .mask .now) (c .before .before .before
-    .before .before .before .before .before .before .before .before .before .before .before .before .before .before .before .before
-    .before .before .before .args .seen .now) (c .before .before .before .before .before .before .before .before .before .before .before
-    .before .before .before .before .before .before .before .before .before .before .before .args .waiting .now) (c .before .before
-    .before .before .before .before .before .before .before .before .before .before .before .before .before .before .before .before
-    .before .before .before .before .args .patches .now) (c .before .before .before .before .before .before .before .before .before
-    .before .before .before .before .before .before .before .before .before .before .before .before .before .args .candidates .now)
-    (c .before .before .before .before .before .before .before .before .before .before .before .before .before .before .before .before
-    .before .before .before .before .before .before .args .blob-index .now)) (c .before .before .before .before .before .before .before
-    .before .before .before .before .before .before .before .before .before .before .before .before .before .before .before .args .means
-    .now) (c .before .before .before .before .before .before .before .before .before .before .before .before .before .before .before
-    .before .before .before .before .before .before .before .args .canonical .now)) (sym (c .before .before .before .before .before
-    .before .before .before .before .before .refused .ensures) ∙ c .before .before .before .before .before .before .before .before
-    .before .if1 .left) in
+    let b = c .before .before .before .before .before .before .before .before .before in
+    let a = b .before .before .before .before .before .before .before .before .before .before .before .before .before .args in
+    let p = passed _ _ (lent (areas (a .luma .now) (a .integral .now) (a .mask .now) (a .seen .now) (a .waiting .now) (a .patches .now) (a .candidates
+    .now) (a .blob-index .now)) (a .means .now) (a .canonical .now)) (sym (b .before .refused .ensures) ∙ b .if1 .left) in
     (p .ready, p .means-room)
 
 lay-requires : tie.Need-lay-requires
 lay-requires c κs =
-    let p = passed _ _ (lent (areas (c .before .before .before .before .before .before .before .before .before .before .before .before
-    .before .before .before .before .before .before .before .before .before .before .before .before .before .before .before .before
-    .before .before .before .before .before .before .before .before .before .before .before .before .before .before .args .luma .now)
-    (c .before .before .before .before .before .before .before .before .before .before .before .before .before .before .before .before
-    .before .before .before .before .before .before .before .before .before .before .before .before .before .before .before .before
-    .before .before .before .before .before .before .before .before .before .before .args .integral .now) (c .before .before .before
-    .before .before .before .before .before .before .before .before .before .before .before .before .before .before .before .before
-    .before .before .before .before .before .before .before .before .before .before .before .before .before .before .before .before
-    .before .before .before .before .before .before .before .args .mask .now) (c .before .before .before .before .before .before .before
-    .before .before .before .before .before .before .before .before .before .before .before .before .before .before .before .before
-    .before .before .before .before .before .before .before .before .before .before .before .before .before .before .before .before
-    .before .before .before .args .seen .now) (c .before .before .before .before .before .before .before .before .before .before .before
-    .before .before .before .before .before .before .before .before .before .before .before .before .before .before .before .before
-    .before .before .before .before .before .before .before .before .before .before .before .before .before .before .before .args
-    .waiting .now) (c .before .before .before .before .before .before .before .before .before .before .before .before .before .before
-    .before .before .before .before .before .before .before .before .before .before .before .before .before .before .before .before
-    .before .before .before .before .before .before .before .before .before .before .before .before .args .patches .now)
-    (c .before .before .before .before .before .before .before .before .before .before .before .before .before .before .before .before
-    .before .before .before .before .before .before .before .before .before .before .before .before .before .before .before .before
-    .before .before .before .before .before .before .before .before .before .before .args .candidates .now) (c .before .before .before
-    .before .before .before .before .before .before .before .before .before .before .before .before .before .before .before .before
-    .before .before .before .before .before .before .before .before .before .before .before .before .before .before .before .before
-    .before .before .before .before .before .before .before .args .blob-index .now)) (c .before .before .before .before .before .before
-    .before .before .before .before .before .before .before .before .before .before .before .before .before .before .before .before
-    .before .before .before .before .before .before .before .before .before .before .before .before .before .before .before .before
-    .before .before .before .before .args .means .now) (c .before .before .before .before .before .before .before .before .before
-    .before .before .before .before .before .before .before .before .before .before .before .before .before .before .before .before
-    .before .before .before .before .before .before .before .before .before .before .before .before .before .before .before .before
-    .before .args .canonical .now)) (sym (c .before .before .before .before .before .before .before .before .before .before .before
-    .before .before .before .before .before .before .before .before .before .before .before .before .before .before .before .before
-    .before .before .before .refused .ensures) ∙ c .before .before .before .before .before .before .before .before .before .before
-    .before .before .before .before .before .before .before .before .before .before .before .before .before .before .before .before
-    .before .before .before .if1 .left) in
+    let b = c .before .before .before .before .before .before .before .before .before .before .before .before .before .before .before .before .before
+    .before .before .before .before .before .before .before .before .before .before .before .before in
+    let a = b .before .before .before .before .before .before .before .before .before .before .before .before .before .args in
+    let p = passed _ _ (lent (areas (a .luma .now) (a .integral .now) (a .mask .now) (a .seen .now) (a .waiting .now) (a .patches .now) (a .candidates
+    .now) (a .blob-index .now)) (a .means .now) (a .canonical .now)) (sym (b .before .refused .ensures) ∙ b .if1 .left) in
     (p .ready .capture, p .ready .frame, p .canonical-long)
 
 answer-requires : tie.Need-answer-requires
@@ -119,44 +77,14 @@ same-length-10 c = c .before .before .before .lay .kept .1 .1 .1 .1 .1 .0
 
 returns-2 : tie.Need-returns-2
 returns-2 c =
-    rectify-reported _ _ (lent (areas (c .before .before .before .before .before .before .before .before .before .before .before .before
-    .before .before .before .before .before .before .before .before .before .before .before .before .before .before .before .before
-    .before .before .before .before .before .before .before .before .before .before .before .before .before .before .before .before
-    .before .before .args .luma .now) (c .before .before .before .before .before .before .before .before .before .before .before .before
-    .before .before .before .before .before .before .before .before .before .before .before .before .before .before .before .before
-    .before .before .before .before .before .before .before .before .before .before .before .before .before .before .before .before
-    .before .before .args .integral .now) (c .before .before .before .before .before .before .before .before .before .before .before
-    .before .before .before .before .before .before .before .before .before .before .before .before .before .before .before .before
-    .before .before .before .before .before .before .before .before .before .before .before .before .before .before .before .before
-    .before .before .before .args .mask .now) (c .before .before .before .before .before .before .before .before .before .before .before
-    .before .before .before .before .before .before .before .before .before .before .before .before .before .before .before .before
-    .before .before .before .before .before .before .before .before .before .before .before .before .before .before .before .before
-    .before .before .before .args .seen .now) (c .before .before .before .before .before .before .before .before .before .before .before
-    .before .before .before .before .before .before .before .before .before .before .before .before .before .before .before .before
-    .before .before .before .before .before .before .before .before .before .before .before .before .before .before .before .before
-    .before .before .before .args .waiting .now) (c .before .before .before .before .before .before .before .before .before .before
-    .before .before .before .before .before .before .before .before .before .before .before .before .before .before .before .before
-    .before .before .before .before .before .before .before .before .before .before .before .before .before .before .before .before
-    .before .before .before .before .args .patches .now) (c .before .before .before .before .before .before .before .before .before
-    .before .before .before .before .before .before .before .before .before .before .before .before .before .before .before .before
-    .before .before .before .before .before .before .before .before .before .before .before .before .before .before .before .before
-    .before .before .before .before .before .args .candidates .now) (c .before .before .before .before .before .before .before .before
-    .before .before .before .before .before .before .before .before .before .before .before .before .before .before .before .before
-    .before .before .before .before .before .before .before .before .before .before .before .before .before .before .before .before
-    .before .before .before .before .before .before .args .blob-index .now)) (c .before .before .before .before .before .before .before
-    .before .before .before .before .before .before .before .before .before .before .before .before .before .before .before .before
-    .before .before .before .before .before .before .before .before .before .before .before .before .before .before .before .before
-    .before .before .before .before .before .before .before .args .means .now) (c .before .before .before .before .before .before
-    .before .before .before .before .before .before .before .before .before .before .before .before .before .before .before .before
-    .before .before .before .before .before .before .before .before .before .before .before .before .before .before .before .before
-    .before .before .before .before .before .before .before .before .args .canonical .now)) _ _ _ (sym (c .before .before .before
-    .before .before .before .before .before .before .before .before .before .before .before .before .before .before .before .before
-    .before .before .before .before .before .before .before .before .before .before .before .before .before .before .before .refused
-    .ensures) ∙ c .before .before .before .before .before .before .before .before .before .before .before .before .before .before
-    .before .before .before .before .before .before .before .before .before .before .before .before .before .before .before .before
-    .before .before .before .if1 .left) (c .before .before .before .before .before .before .before .before .before .before .before
-    .before .before .before .before .before .before .before .before .before .before .before .before .fit-picture .ensures) _ _
-    (c .before .before .before .lay .ensures) (c .answer .ensures)
+    let b = c .before .before .before .before .before .before .before .before .before .before .before .before .before .before .before .before .before
+    .before .before .before .before .before .before in
+    let a = b .before .before .before .before .before .before .before .before .before .before .before .before .before .before .before .before .before
+    .before .before .before .before .before .before .args in
+    rectify-reported _ _ (lent (areas (a .luma .now) (a .integral .now) (a .mask .now) (a .seen .now) (a .waiting .now) (a .patches .now) (a
+    .candidates .now) (a .blob-index .now)) (a .means .now) (a .canonical .now)) _ _ _ (sym (b .before .before .before .before .before .before .before
+    .before .before .before .before .refused .ensures) ∙ b .before .before .before .before .before .before .before .before .before .before .if1 .left)
+    (b .fit-picture .ensures) _ _ (c .before .before .before .lay .ensures) (c .answer .ensures)
 
 pub rectify-spec : {M : Type 1} → statement M
 rectify-spec =

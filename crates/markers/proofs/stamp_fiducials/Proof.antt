@@ -71,21 +71,15 @@ same-length-3 c = search needs
 returns-4 : tie.Need-returns-4
 unfolding stampTests stamped squares
 returns-4 c =
-    let a = c .before .before .before .before .before .before .before .before .before .before .before .before .before .before .before .before .args in
-    let e = sym (c .before .before .before .before .before .before .before .before .before .marker-layout .ensures) ∙ c .before .before .before .before .before .before .before .layout .given .1 in
-    stamping-accepted (image (a .w) (a .h) _) (a .frame) _
-    (lowest-next 1 _ _ (sym (c .before .before .before .before .before .before .before .before .before .before .before .before .before
-    .before .frame-outside .ensures) ∙ c .before .before .before .before .before .before .before .before .before .before .before .before
-    .before .if1 .left)
-    ∙ lowest-next 2 _ _ (sym (c .before .before .before .before .before .before .before .before .before .before .before .capture-wrong
-    .ensures) ∙ c .before .before .before .before .before .before .before .before .before .before .if2 .left)
-    ∙ lowest-next 5 _ _ (layout-some _ _ e)
-    ∙ lowest-none)
-    (c .before .before .stamp-markers .ensures
-    ∙ ap (λ k. withSquares (bullseyes (k .m) (f64 (c .before .before .before .before .before .quiet-zone .result)) (k .origins))
-    (image (a .w) (a .h) (a .bytes .now))) (layout-values (a .frame) _ e)
-    ∙ ap (λ n. withSquares (bullseyes (f64 (marker (a .frame))) (f64 n) (origins (a .frame))) (image (a .w) (a .h) (a .bytes .now)))
-    (c .before .before .before .before .before .quiet-zone .ensures))
+    let b = c .before .before .before .before .before .before .before in
+    let a = b .before .before .before .before .before .before .before .before .before .args in
+    let e = sym (b .before .before .marker-layout .ensures) ∙ b .layout .given .1 in
+    stamping-accepted (image (a .w) (a .h) _) (a .frame) _ (lowest-next 1 _ _ (sym (b .before .before .before .before .before .before .before
+    .frame-outside .ensures) ∙ b .before .before .before .before .before .before .if1 .left) ∙ lowest-next 2 _ _ (sym (b .before .before .before
+    .before .capture-wrong .ensures) ∙ b .before .before .before .if2 .left) ∙ lowest-next 5 _ _ (layout-some _ _ e) ∙ lowest-none) (c .before .before
+    .stamp-markers .ensures ∙ ap (λ k. withSquares (bullseyes (k .m) (f64 (c .before .before .before .before .before .quiet-zone .result)) (k
+    .origins)) (image (a .w) (a .h) (a .bytes .now))) (layout-values (a .frame) _ e) ∙ ap (λ n. withSquares (bullseyes (f64 (marker (a .frame))) (f64
+    n) (origins (a .frame))) (image (a .w) (a .h) (a .bytes .now))) (c .before .before .before .before .before .quiet-zone .ensures))
 
 pub stamp-fiducials-spec : {M : Type 1} → statement M
 stamp-fiducials-spec =

@@ -8,14 +8,14 @@ use Rattle.test_fit_geometry.proofs.answer.Tie as tie
 size-at-requires : tie.Need-size-at-requires
 size-at-requires c κs = search needs
 
-least-requires : tie.Need-least-requires
-least-requires c κs = search needs
+min-requires : tie.Need-min-requires
+min-requires c κs = search needs
 
 size-at-requires-2 : tie.Need-size-at-requires-2
 size-at-requires-2 c κs = search needs
 
-least-requires-2 : tie.Need-least-requires-2
-least-requires-2 c κs = search needs
+min-requires-2 : tie.Need-min-requires-2
+min-requires-2 c κs = search needs
 
 slice-aggregate-fit-geometry : tie.Need-slice-aggregate-fit-geometry
 slice-aggregate-fit-geometry c = simp length-take (omega arith)
@@ -52,9 +52,9 @@ answer-spec =
     tie.close
     (tie.spec
     size-at-requires
-    least-requires
+    min-requires
     size-at-requires-2
-    least-requires-2
+    min-requires-2
     slice-aggregate-fit-geometry
     size-at-requires-3
     size-at-requires-4

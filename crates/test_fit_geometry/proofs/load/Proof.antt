@@ -8,8 +8,8 @@ use Rattle.test_fit_geometry.proofs.load.Tie as tie
 size-at-requires : tie.Need-size-at-requires
 size-at-requires c κs = search needs
 
-least-requires : tie.Need-least-requires
-least-requires c κs = search needs
+min-requires : tie.Need-min-requires
+min-requires c κs = search needs
 
 slice-relend-prefix-read-full : tie.Need-slice-relend-prefix-read-full
 slice-relend-prefix-read-full c = search needs
@@ -31,7 +31,7 @@ load-spec =
     tie.close
     (tie.spec
     size-at-requires
-    least-requires
+    min-requires
     slice-relend-prefix-read-full
     slice-aggregate-read-full
     read-full-requires

@@ -208,7 +208,8 @@ module _ {M : Type 1} (𝓤 : URA M) (H : Heap 𝓤) (A : Atoms 𝓤) (W : Given
         use3 W (later (‵ (Arr (memOf T.the-row) (length xs) .lies (zs .0) l₅ 0))) (slice-back 𝓤 H A W T.the-row (α ∷ []) γ (zs .0) (length xs) l₅ 0) $ await ! tt $
         rewrite ! 0 (λ (l : List Candidate). ‵ (Arr (memOf T.the-row) (length xs) .lies l l₅ 0)) e refl $ rewrite ! 0 (λ (m : ℕ). ‵ (Arr (memOf T.the-row) m .lies ws l₅ 0)) len refl $
         use1 W (‵ (fat fullShare five-ty l₅ 0 (five-val ws)) ⊛ ‵ (Five .own ws (five-val ws ∷ []))) (arrays.taken T.the-type T′.the-laws T′.the-plain 𝓤 H A W ws l₅) $ split ! $
-        -- [_5; what it owns; the tokens; …; what blob_index owns; what i owns; what candidates owns; what list owns; _8; …; _7; …; _6; …; _5's end; _4; …; _3; …; _2; …; _1; …; room for _0; …]
+        -- [_5; what it owns; the tokens; …; what blob_index owns; what i owns; what candidates owns; what list owns; _8; …; _7; …; _6; …; _5's end;
+        -- _4; …; _3; …; _2; …; _1; …; room for _0; …]
         move ! (1 ∷ []) $ peeks ! Five (Is Five) (shows 𝓤 H A Five) ws (five-val ws ∷ []) (λ is″.
         assigns ! (of-opd ! (load ! (from ! (stop !)) (look ! 1 refl))) (from ! (stop !))
         (init ! 23 refl (array-lawful 𝓤 H A W T.the-row (LL.lawful T.the-type T′.the-laws 𝓤 H A W) 5 .typed ws _ is″ .0)) $

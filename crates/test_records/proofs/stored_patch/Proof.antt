@@ -171,7 +171,8 @@ module _ {M : Type 1} (𝓤 : URA M) (H : Heap 𝓤) (A : Atoms 𝓤) (W : Given
         use1 W (some (λ (zs : List Blob × (Unit {0} × (Unit {0} × Unit {0}))). ‵ (lasts store.ended (α ∷ [], (κ, tt)) (s l₄ γ, (f, (j, tt)))
         zs) ⊛ raw (fact 𝓤 (zs .0 ≡ ws)))) (id⊢ 𝓤 _) $ pick ! (λ zs.
         split ! $ move ! (1 ∷ []) $ heard ! (zs .0 ≡ ws) (λ e. fsplit ! $ fsplit ! $ move ! (1 ∷ []) $ feqL ! (λ l.
-        -- [the last list; …; the tokens and the result; what patches owns; what j owns; what list owns; the lender's part; _7; …; _6; …; room for _5; …; _4's end; _3; …; _2; …; _1; …; room for _0; …]
+        -- [the last list; …; the tokens and the result; what patches owns; what j owns; what list owns; the lender's part; _7; …; _6; …;
+        -- room for _5; …; _4's end; _3; …; _2; …; _1; …; room for _0; …]
         move ! (2 ∷ []) $ split ! $ move ! (1 ∷ []) $ peeks ! unit (Is unit) (shows 𝓤 H A unit) r (u ∷ []) (λ is′.
         land ! (from ! (stop !)) (init ! 12 refl (nothing-lawful 𝓤 H A W .typed r _ is′ .0)) $ drop ! $
         -- the lifetime is ended, and the array taken back

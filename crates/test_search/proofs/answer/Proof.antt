@@ -8,8 +8,8 @@ use Rattle.test_search.proofs.answer.Tie as tie
 size-at-requires : tie.Need-size-at-requires
 size-at-requires c κs = search needs
 
-least-requires : tie.Need-least-requires
-least-requires c κs = search needs
+min-requires : tie.Need-min-requires
+min-requires c κs = search needs
 
 slice-aggregate-searched : tie.Need-slice-aggregate-searched
 slice-aggregate-searched c = simp length-take (omega arith)
@@ -40,7 +40,7 @@ answer-spec =
     tie.close
     (tie.spec
     size-at-requires
-    least-requires
+    min-requires
     slice-aggregate-searched
     size-at-requires-2
     size-at-requires-3

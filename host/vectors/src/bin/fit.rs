@@ -12,7 +12,8 @@
 // test_fit_geometry: stdin is records of 8 words (w, h, the frame, the capture's length in bytes, the length of the area of
 // means) with the capture behind them. stdout has the refusal's number; after 7 the numbers of patches and candidates;
 // after 0 those, then the four places in the patch list, matrix, lens, the kept trial's score, and the counts of
-// trials and of homographies. Every NaN is written as one. The original has no refusal numbers: they are document 01's.
+// trials and of homographies. Every NaN is written as one. The original has no refusal numbers: they are
+// those of docs/REQUIREMENTS.md, 2.
 use lpcorepub::frame::FrameSpec;
 use lpcorepub::geometry::{
     adaptive_black_mask, detect_fiducials, fiducial_candidates, fit_for, fit_geometry, grid_score, label_blobs, luma_plane, marker_layout,

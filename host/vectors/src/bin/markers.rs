@@ -1,5 +1,5 @@
 // Vectors of crates/test_markers: the records that it reads, and the lines that it is to print, by
-// the original. Refusals 1 and 2 are document 01's limits, which the original lacks; 5 is where the
+// the original. Refusals 1 and 2 are the port's limits, which the original lacks; 5 is where the
 // original says None or false. In this folder:
 //     cargo run --release --offline --bin markers
 // writes stdin and stdout of ../../crates/test_markers.

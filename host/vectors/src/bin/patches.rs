@@ -1,9 +1,10 @@
 //! Inputs and outputs of the programs `patches` and `test_patches`. In host/vectors, after host/oracle/prepare:
 //!   CARGO_TARGET_DIR=../target cargo run --release --offline --bin patches
 //! writes crates/patches/{stdin,stdout} and crates/test_patches/{args,data/,stdout}. Patch lists are those of the original's
-//! `label_blobs`; what is refused, and the layout of the text, are document 01's.
+//! `label_blobs`; what is refused, and the layout of the text, are those of docs/REQUIREMENTS.md, 7.
 
 use std::fs;
+use vectors::Random;
 
 const REFUSED: &str = "refused 2\n";
 
@@ -62,15 +63,10 @@ fn spiral(n: usize) -> Mask {
     Mask { w: n, h: n, dark }
 }
 
-/// Letters that a fixed linear congruence gives, dark `k` times in eight.
+/// Letters at random, dark `k` times in eight.
 fn mixed(w: usize, h: usize, k: u64, seed: u64) -> Mask {
-    let mut s = seed;
-    let dark = (0..w * h)
-        .map(|_| {
-            s = s.wrapping_mul(6364136223846793005).wrapping_add(1442695040888963407);
-            (s >> 61) < k
-        })
-        .collect();
+    let mut random = Random(seed);
+    let dark = (0..w * h).map(|_| random.next() >> 61 < k).collect();
     Mask { w, h, dark }
 }
 

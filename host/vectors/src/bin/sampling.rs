@@ -2,8 +2,8 @@
 // In host/vectors: `cargo run --release --offline --bin sampling` writes crates/test_sampling/stdin and stdout again.
 //
 // stdin is the 60 bytes of a picture of 5 by 4, four bytes of padding, and then the places, two 64-bit words each, lowest
-// byte first: the patterns of x and y. stdout begins with what the program asks by itself: document 01's example, 0 and
-// 255 side by side at (1.0, 0.5), and four captures that document 01 refuses by 2. Then a line for each place.
+// byte first: the patterns of x and y. stdout begins with what the program asks by itself: requirement 15.3, 0 and
+// 255 side by side at (1.0, 0.5), and four captures that are refused by 2. Then a line for each place.
 use lpcore::geometry::bilinear;
 use lpcore::image::RgbImage;
 use vectors::Random;

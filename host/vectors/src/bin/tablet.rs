@@ -4,7 +4,7 @@
 //
 // stdin is the capture's bytes. stdout has the answers' words, one a line, in hexadecimal: each call's refusal number, and
 // then what it wrote. Of the areas some entries are printed, of bytes every sixteenth word of eight. The number of waiting
-// pixels is not the original's, and left out. The smallest lengths are document 01's.
+// pixels is not the original's, and left out. The smallest lengths are those of docs/REQUIREMENTS.md, 3.1.
 use lpcorepub::frame::FrameSpec;
 use lpcorepub::geometry::{
     adaptive_black_mask, bilinear, detect_fiducials, fiducial_candidates, fit_for, fit_geometry, grid_score, label_blobs, luma_plane,

@@ -3,10 +3,9 @@ use Prim.Native.Nat.{_+_, _-_, _≤_, _<_}
 use native.Mathlib.Omega.{arith}
 use mathlib.Core.Path.{_≡_, refl, ap, _∙_}
 use denote.Ref.{now}
-use mathlib.Core.List.{_++_}
+use mathlib.Core.List.{_++_, append-nil}
 use lib.ListN.{length, set, drop, replicate, length-set, drop-of-length-le}
 use borrow.Author.Fill.{fill-none, fill-more}
-use Rattle.blobs.proofs.Parts.{append-none}
 use Rattle.blobs.proofs.internal.clear.Statement.{statement}
 use Rattle.blobs.proofs.internal.clear.Tie as tie
 
@@ -44,7 +43,7 @@ returns c =
     let s₀ = now (c .before .before .args .seen) in
     let e : l .i ≡ length s₀ = omega (arith, l .inv .1, l .inv .2, c .loop-test .left) in
     l .inv .0 ∙ ap (λ n. replicate n 0 ++ drop n s₀) e ∙ ap (λ x. replicate (length s₀) 0 ++ x) (drop-of-length-le s₀ {i = length s₀}
-    (omega arith)) ∙ append-none (replicate (length s₀) 0)
+    (omega arith)) ∙ append-nil (replicate (length s₀) 0)
 
 pub clear-spec : {M : Type 1} → statement M
 clear-spec =

@@ -21,14 +21,14 @@ use Rattle.blobs.proofs.internal.flood.Tie as tie
 
 -- as many turns are done as pixels are counted
 abbrev Inv-loop : tie.InvT-loop
-Inv-loop mask seen₀ waiting₀ w a blob₀ top₀ deep₀ seen waiting blob top deep =
-    (flooding seen (stackOf waiting top) blob deep ≡ turns (blob .area) (floodStep mask w) (flooding seen₀ (stackOf waiting₀ top₀) blob₀ deep₀)) × (length waiting ≡ length waiting₀)
+Inv-loop mask seen₀ waiting₀ w a blob₀ top₀ waited₀ seen waiting blob top waited =
+    (flooding seen (stackOf waiting top) blob waited ≡ turns (blob .area) (floodStep mask w) (flooding seen₀ (stackOf waiting₀ top₀) blob₀ waited₀)) × (length waiting ≡ length waiting₀)
 
 abbrev μ-loop : tie.MeasureT-loop
-μ-loop mask seen₀ waiting₀ w a blob₀ top₀ deep₀ seen waiting blob top deep = length mask - blob .area
+μ-loop mask seen₀ waiting₀ w a blob₀ top₀ waited₀ seen waiting blob top waited = length mask - blob .area
 
 abbrev now-flooding : (c : tie.At-loop Inv-loop μ-loop) → Flooding
-now-flooding c = flooding (c .loop .seen) (stackOf (c .loop .waiting) (c .loop .top)) (c .loop .blob) (c .loop .deep)
+now-flooding c = flooding (c .loop .seen) (stackOf (c .loop .waiting) (c .loop .top)) (c .loop .blob) (c .loop .waited)
 
 waiting-some : (c : tie.After-no-blob Inv-loop μ-loop) → 0 < length (now (c .before .before .before .before .args .waiting))
 waiting-some c = let g = c .before .before .before .before .pre in omega (arith, g .0 .pixel .inside, g .1)
@@ -54,8 +54,9 @@ counted : (c : tie.At-loop Inv-loop μ-loop) → c .loop .blob .area + c .loop .
 counted c = omega (arith, progress-area (progress c), length-stack (c .loop .waiting) (c .loop .top))
 
 long : (c : tie.At-loop Inv-loop μ-loop) → length (c .loop .waiting) ≡ length (now (c .before .before .before .before .before .args .mask))
-long c = c .loop .inv .1 ∙ length-set (now (c .before .before .before .before .before .args .waiting)) 0 (c .before .before .before .before
-    .before .args .a) ∙ c .before .before .before .before .before .pre .1
+long c =
+    let a = c .before .before .before .before .before .args in
+    c .loop .inv .1 ∙ length-set (now (a .waiting)) 0 (a .a) ∙ c .before .before .before .before .before .pre .1
 
 no-blob-requires : tie.Need-no-blob-requires Inv-loop μ-loop
 no-blob-requires c κs = c .before .before .before .pre .0 .pixel .wide
@@ -136,19 +137,20 @@ spread-requires c κs =
       ),
     )
 
-most-requires : tie.Need-most-requires Inv-loop μ-loop
-most-requires c κs = search needs
+max-requires : tie.Need-max-requires Inv-loop μ-loop
+max-requires c κs = search needs
 
 loop-less : tie.Need-loop-less Inv-loop μ-loop
-loop-less c = omega (
-  arith,
-  counted (c .before .before .before .before .before .before .before .before .before .before .before),
-  c .before
-      .before .before .before .before .before .before .before .before .before .loop-test .taken,
-  grow-area (c .before .before .before .before
-      .before .before .before .before .before .before .before .loop .blob) (c .before .before .before .before .before .before .before .before
-      .grow .result) _ _ (c .before .before .before .before .before .before .before .before .grow .ensures),
-)
+loop-less c =
+    omega (
+      arith,
+      counted (c .before .before .before .before .before .before .before .before .before .before .before),
+      c .before .before .before
+          .before .before .before .before .before .before .before .loop-test .taken,
+      grow-area (c .before .before .before .before .before .before .before
+          .before .before .before .before .loop .blob) (c .before .before .before .before .before .before .before .before .grow .result) _ _ (c .before
+          .before .before .before .before .before .before .before .grow .ensures),
+    )
 
 loop-again : tie.Need-loop-again Inv-loop μ-loop
 loop-again c =
@@ -158,16 +160,14 @@ loop-again c =
     let v = c .before .before .before .before .before .spread in
     let g = c .before .before .before .before .before .before .before .before .grow in
     let m = now (s .mask) in
-    let f₀ = flooding (set (now (s .seen)) (s .a) 1) (stackOf (set (now (s .waiting)) 0 (s .a)) 1) (c .before .before .before .before
-    .before .before .before .before .before .before .before .before .no-blob .result) 1 in (
-      floodStep-is m (s .w) (l .blob .area) (l .seen) (l .waiting) (l .top) (l .blob) (l .deep) (v .last .1 .0) (v .last .1 .1 .0)
-          (v .result) (g .result) (c .most .result) low (omega (
+    let f₀ = flooding (set (now (s .seen)) (s .a) 1) (stackOf (set (now (s .waiting)) 0 (s .a)) 1) (c .before .before .before .before .before .before
+    .before .before .before .before .before .before .no-blob .result) 1 in (
+      floodStep-is m (s .w) (l .blob .area) (l .seen) (l .waiting) (l .top) (l .blob) (l .waited) (v .last .1 .0) (v .last .1 .1 .0) (v .result) (g
+          .result) (c .max .result) low (omega (
             arith,
-            c .before .before .before .before .before .before .before .before
-                .before .before .loop-test .taken,
-          )) (v .ensures) (g .ensures) (c .most .ensures)
-          ∙ turns-step (floodStep m (s .w)) f₀ (l .blob .area) (l .inv .0)
-          ∙ ap (λ n. turns n (floodStep m (s .w)) f₀) (sym (grow-area (l .blob) (g .result) _ _ (g .ensures))),
+            c .before .before .before .before .before .before .before .before .before .before .loop-test .taken,
+          )) (v .ensures) (g .ensures) (c .max .ensures) ∙ turns-step (floodStep m (s .w)) f₀ (l .blob .area) (l .inv .0) ∙ ap (λ n. turns n (floodStep m (s
+          .w)) f₀) (sym (grow-area (l .blob) (g .result) _ _ (g .ensures))),
       v .kept .1 .1 .0 ∙ l .inv .1,
     )
 
@@ -183,9 +183,9 @@ returns c =
     let l = c .before .loop in
     let m = now (s .args .mask) in
     let e : stackOf (l .waiting) (l .top) ≡ [] = stack-none (l .waiting) (l .top) (omega (arith, c .loop-test .left)) in
-    let f : flooding (l .seen) [] (l .blob) (l .deep) ≡ flood m (s .args .w) (s .args .a) (now (s .args .seen)) =
-    flood-is m (s .args .w) (s .args .a) (now (s .args .seen)) (l .blob .area) (flooding (l .seen) [] (l .blob) (l .deep)) refl (omega (arith, counted (c .before)))
-    (ap (λ k. flooding (l .seen) k (l .blob) (l .deep)) (sym e) ∙ state (c .before)) in
+    let f : flooding (l .seen) [] (l .blob) (l .waited) ≡ flood m (s .args .w) (s .args .a) (now (s .args .seen)) =
+    flood-is m (s .args .w) (s .args .a) (now (s .args .seen)) (l .blob .area) (flooding (l .seen) [] (l .blob) (l .waited)) refl (omega (arith, counted (c .before)))
+    (ap (λ k. flooding (l .seen) k (l .blob) (l .waited)) (sym e) ∙ state (c .before)) in
     (f, subst (λ (x : Flooding). PatchOf m (s .args .w) (s .args .a) (x .blob)) (sym f) (flood-does (s .pre .0) .patch))
 
 pub flood-spec : {M : Type 1} → statement M
@@ -207,7 +207,7 @@ flood-spec =
     div-y
     grow-requires
     spread-requires
-    most-requires
+    max-requires
     loop-less
     loop-again
     same-length

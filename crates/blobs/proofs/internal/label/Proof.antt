@@ -48,7 +48,7 @@ returns c =
     let s = a .args in
     let v = c .before .before .before .before .before .before .label-exact in
     labels-whole (now (s .mask)) (s .w) (s .h) (now (s .seen)) (now (s .waiting)) (now (s .patches)) (v .last .1 .1 .1 .0) (v .last .1 .1 .1
-    .1 .0) (v .last .1 .1 .1 .1 .1 .0) (v .result .patches) (v .result .waiting) (a .pre .1) (a .pre .2) (v .ensures)
+    .1 .0) (v .last .1 .1 .1 .1 .1 .0) (v .result .patches) (v .result .waited) (a .pre .1) (a .pre .2) (v .ensures)
 
 pub label-spec : {M : Type 1} → statement M
 label-spec =

@@ -10,14 +10,14 @@ use Rattle.base.specs.Loops.{table, turns}
 use Rattle.base.proofs.Turns.{turns-step, turns-end}
 use Rattle.blobs.specs.Patches.{recordLength, patchAt}
 use Rattle.blobs.specs.Stack.{scanned, scan, unmarked}
-use Rattle.blobs.proofs.Parts.{drop-later}
+use Rattle.base.proofs.Parts.{drop-later}
 use Rattle.blobs.proofs.Whole.{scan-at, scan-begun, labels-are}
 use Rattle.blobs.proofs.internal.label_exact.Statement.{statement}
 use Rattle.blobs.proofs.internal.label_exact.Tie as tie
 
 abbrev Inv-loop : tie.InvT-loop
 Inv-loop mask w h seen₀ waiting₀ patches₀ c₀ i₀ seen waiting patches c i =
-    (scanned seen (table (patchAt patches) (c .patches)) (c .waiting) ≡ turns i (scan mask w) (unmarked mask))
+    (scanned seen (table (patchAt patches) (c .patches)) (c .waited) ≡ turns i (scan mask w) (unmarked mask))
     × (i ≤ length mask)
     × (length waiting ≡ length waiting₀)
     × (length patches ≡ length patches₀)
@@ -72,7 +72,7 @@ same-length : tie.Need-same-length Inv-loop μ-loop
 same-length c =
     let a = c .before .before .before .before .before .before .before .before .before .before in
     let l = c .before .loop in
-    scan-at (a .pre .0) (scanned (l .seen) (table (patchAt (l .patches)) (l .c .patches)) (l .c .waiting)) (l .i) (l .inv .1) (l .inv .0) .long ∙ a .pre .0 .size ∙ sym (a .pre .1)
+    scan-at (a .pre .0) (scanned (l .seen) (table (patchAt (l .patches)) (l .c .patches)) (l .c .waited)) (l .i) (l .inv .1) (l .inv .0) .long ∙ a .pre .0 .size ∙ sym (a .pre .1)
 
 same-length-2 : tie.Need-same-length-2 Inv-loop μ-loop
 same-length-2 c = c .before .loop .inv .2
@@ -86,7 +86,7 @@ returns c =
     let l = c .before .loop in
     let s = a .args in
     let e : l .i ≡ length (now (s .mask)) = omega (arith, l .inv .1, c .loop-test .left) in
-    labels-are (a .pre .0) (now (s .seen)) (now (s .waiting)) (now (s .patches)) (l .seen) (l .waiting) (l .patches) (l .c .patches) (l .c .waiting)
+    labels-are (a .pre .0) (now (s .seen)) (now (s .waiting)) (now (s .patches)) (l .seen) (l .waiting) (l .patches) (l .c .patches) (l .c .waited)
     (turns-end (scan (now (s .mask)) (s .w)) (unmarked (now (s .mask))) (l .i) (length (now (s .mask))) (l .inv .0) e) (a .pre .1) (a .pre .2) (l .inv .2) (l .inv .3) (l .inv .4)
 
 pub label-exact-spec : {M : Type 1} → statement M

@@ -6,9 +6,10 @@ use denote.Ref.{now}
 use borrow.Author.Needs.{needs}
 use lib.ListN.{length, getD, drop}
 use Rattle.base.specs.Loops.{table}
+use Rattle.base.proofs.Table.{length-table}
 use Rattle.blobs.specs.Patches.{recordLength, patchAt}
 use Rattle.blobs.specs.Stack.{scanned}
-use Rattle.blobs.proofs.Records.{length-table, stored-rest}
+use Rattle.blobs.proofs.Records.{stored-rest}
 use Rattle.blobs.proofs.Scans.{Scan, scan-ready, scan-few}
 use Rattle.blobs.proofs.Stacks.{scan-light, scan-seen, scan-stored}
 use Rattle.blobs.proofs.Whole.{scan-at, few-room}
@@ -17,9 +18,9 @@ use Rattle.blobs.proofs.internal.scan.Tie as tie
 
 -- the scan before the pixel i
 before : (a : tie.Start)
-    → Scan (now (a .args .mask)) (a .args .w) (scanned (now (a .args .seen)) (table (patchAt (now (a .args .patches))) (a .args .c .patches)) (a .args .c .waiting)) (a .args .i)
+    → Scan (now (a .args .mask)) (a .args .w) (scanned (now (a .args .seen)) (table (patchAt (now (a .args .patches))) (a .args .c .patches)) (a .args .c .waited)) (a .args .i)
 before a = scan-at (a .pre .0 .0) (scanned (now (a .args .seen)) (table (patchAt (now (a .args .patches))) (a .args .c .patches))
-    (a .args .c .waiting)) (a .args .i) (omega (arith, a .pre .0 .3)) (a .pre .1)
+    (a .args .c .waited)) (a .args .i) (omega (arith, a .pre .0 .3)) (a .pre .1)
 
 -- room for one record more
 roomy : (a : tie.Start) → (getD (now (a .args .mask)) (a .args .i) 0 ≡ 0 → ⊥) → getD (now (a .args .seen)) (a .args .i) 0 ≡ 0
@@ -56,8 +57,8 @@ store-requires c κs = roomy (c .before .before .before .before .before .before 
     .before .before .before .before) (c .before .before .before .before .before .before .before .before .before .before .before .if1 .left)
     (c .before .before .before .before .before .before .before .before .before .if2 .left)
 
-most-requires : tie.Need-most-requires
-most-requires c κs = search needs
+max-requires : tie.Need-max-requires
+max-requires c κs = search needs
 
 add-t24 : tie.Need-add-t24
 add-t24 c =
@@ -88,9 +89,9 @@ returns-3 c =
     let u = c .before .before .before .store in
     let d = c .before .before .before .before .before .before .before .before .before .before .before .before .before .before .before .if1 .left in
     let o = c .before .before .before .before .before .before .before .before .before .before .before .before .before .if2 .left in (
-      ap (λ x. scanned (f .last .1 .0) (table (patchAt x) (n + 1)) (c .most .result)) (u .ensures)
-          ∙ scan-stored (now (s .mask)) (s .w) (s .i) (now (s .seen)) (now (s .patches)) n (s .c .waiting) (f .last .1 .0) (f .result .blob)
-          (f .result .waiting) (c .most .result) d o (roomy a d o) (f .ensures .0) (c .most .ensures),
+      ap (λ x. scanned (f .last .1 .0) (table (patchAt x) (n + 1)) (c .max .result)) (u .ensures)
+          ∙ scan-stored (now (s .mask)) (s .w) (s .i) (now (s .seen)) (now (s .patches)) n (s .c .waited) (f .last .1 .0) (f .result .blob)
+          (f .result .waited) (c .max .result) d o (roomy a d o) (f .ensures .0) (c .max .ensures),
       (omega arith, ap (drop (recordLength * (n + 1))) (u .ensures) ∙ stored-rest (now (s .patches)) n (f .result .blob) (n + 1) (omega arith)),
     )
 
@@ -104,7 +105,7 @@ scan-spec =
     returns-2
     flood-requires
     store-requires
-    most-requires
+    max-requires
     add-t24
     same-length
     same-length-2

@@ -9,6 +9,7 @@ use lib.ListN.{length, take}
 use Rattle.frame.specs.Image.{image}
 use Rattle.sampling.specs.Luma.{lumaPlane}
 use Rattle.mask.specs.Mask.{maskPlane}
+use Rattle.blobs.specs.Areas.{patchAreas}
 use Rattle.blobs.specs.Labels.{Labels}
 use Rattle.candidates.proofs.Held.{pixels-held}
 use Rattle.candidates.proofs.Looks.{mask-front, luma-front, planes-held, labels-as, listable, listable-as, candidates-as, looked}
@@ -43,8 +44,8 @@ luma-length c = ap length (luma-is c) ∙ planes-held _ _ _ (start c .pre) .luma
 
 label-is : (c : tie.After-label) →
     let a = start (planes c) .args in
-    Labels (maskPlane (image (a .w) (a .h) (now (a .capture))) (a .frame)) (a .w) (a .h) (now (a .seen)) (now (a .waiting)) (now (a .patches))
-    (c .label .last .1 .1 .1 .0) (c .label .last .1 .1 .1 .1 .0) (c .label .last .1 .1 .1 .1 .1 .0) (c .label .result .patches) (c .label .result .waiting)
+    Labels (maskPlane (image (a .w) (a .h) (now (a .capture))) (a .frame)) (a .w) (a .h) (patchAreas (now (a .seen)) (now (a .waiting)) (now (a .patches)))
+    (patchAreas (c .label .last .1 .1 .1 .0) (c .label .last .1 .1 .1 .1 .0) (c .label .last .1 .1 .1 .1 .1 .0)) (c .label .result .patches) (c .label .result .waited)
 label-is c = labels-as (mask-is (planes c)) (c .label .ensures)
 
 planes-requires : tie.Need-planes-requires

@@ -20,21 +20,19 @@ in-list n k x p a e = subst (λ z. z < k) (sym e) (pick-below (cornerOf n) p k (
 shared-fact : (c : tie.After-shared) → c .shared .result ≡ sharedPick (centerAt (now (c .before .before .before .before .before .before
     .before .before .args .candidates))) (c .before .before .before .before .before .before .before .before .args .k)
 shared-fact c =
-    c .shared .ensures
-    ∙ shared-is (centerAt (now (c .before .before .before .before .before .before .before .before .args .candidates))) (c .before .before
-    .before .before .before .before .before .before .args .k) _ _ _ _ (c .before .before .before .before .pick .ensures)
-    (c .before .before .before .pick2 .ensures) (c .before .before .pick3 .ensures) (c .before .pick4 .ensures)
+    let a = c .before .before .before .before .before .before .before .before .args in
+    c .shared .ensures ∙ shared-is (centerAt (now (a .candidates))) (a .k) _ _ _ _ (c .before .before .before .before .pick .ensures) (c .before
+    .before .before .pick2 .ensures) (c .before .before .pick3 .ensures) (c .before .pick4 .ensures)
 
 quad-fact : (c : tie.After-quad-at) → c .quad-at .result ≡ quadOf (centerAt (now (c .before .before .before .before .before .before .before
     .before .before .before .args .candidates))) (c .before .before .before .before .before .before .before .before .before .before .args
     .k)
 quad-fact c =
-    let p = centerAt (now (c .before .before .before .before .before .before .before .before .before .before .args .candidates)) in
-    c .quad-at .ensures
-    ∙ quad-is p (c .before .before .before .before .before .before .before .before .before .before .args .k) _ _ _ _ (c .before .before
-    .before .before .before .before .pick .ensures) (c .before .before .before .before .before .pick2 .ensures) (c .before .before
-    .before .before .pick3 .ensures) (c .before .before .before .pick4 .ensures)
-    ∙ quad-of p (c .before .before .before .before .before .before .before .before .before .before .args .k)
+    let a = c .before .before .before .before .before .before .before .before .before .before .args in
+    let p = centerAt (now (a .candidates)) in
+    c .quad-at .ensures ∙ quad-is p (a .k) _ _ _ _ (c .before .before .before .before .before .before .pick .ensures) (c .before .before .before
+    .before .before .pick2 .ensures) (c .before .before .before .before .pick3 .ensures) (c .before .before .before .pick4 .ensures) ∙ quad-of p (a
+    .k)
 
 bad-fact : (c : tie.After-too-small) →
     let a = c .before .before .before .before .before .before .before .before .before .before .before .before .args in
@@ -101,16 +99,17 @@ refusal-requires-3 c κs = search needs
 
 returns-3 : tie.Need-returns-3
 returns-3 c =
-    let a = c .before .before .before .before .before .before .before .before .before .before .before .before .before .before .args in
-    corners-refused (now (a .candidates)) (now (a .blob-index)) (a .w) (a .h) (a .k) 8 _ (c .refusal3 .ensures)
-    (number-9 _ _ _ _ (c .before .before .before .before .before .before .before .before .before .before .before .if1 .left)
-    (sym (shared-fact (c .before .before .before .before .before .before)) ∙ c .before .before .before .before .before .if2 .left)
-    (sym (bad-fact (c .before .before)) ∙ c .before .if3 .taken))
+    let b = c .before .before .before .before .before .before .before .before .before .before .before in
+    let a = b .before .before .before .args in
+    corners-refused (now (a .candidates)) (now (a .blob-index)) (a .w) (a .h) (a .k) 8 _ (c .refusal3 .ensures) (number-9 _ _ _ _ (b .if1 .left) (sym
+    (shared-fact (c .before .before .before .before .before .before)) ∙ c .before .before .before .before .before .if2 .left) (sym (bad-fact (c
+    .before .before)) ∙ c .before .if3 .taken))
 
 places-at-requires : tie.Need-places-at-requires
 places-at-requires c κs =
     let a = c .before .before .before .before .before .before .before .before .before .before .before .before .before .args in
-    let room : a .k ≤ length (now (a .blob-index)) = c .before .before .before .before .before .before .before .before .before .before .before .before .before .pre .3 in
+    let room : a .k ≤ length (now (a .blob-index)) = c .before .before .before .before .before .before .before .before .before .before .before .before
+    .before .pre .3 in
     let four = c .before .before .before .before .before .before .before .before .before .before .if1 .left in
     let h0 = in-list 0 (a .k) _ _ four (c .before .before .before .before .before .before .before .before .before .pick .ensures) in
     let h1 = in-list 1 (a .k) _ _ four (c .before .before .before .before .before .before .before .before .pick2 .ensures) in
@@ -120,19 +119,17 @@ places-at-requires c κs =
 
 returns-4 : tie.Need-returns-4
 returns-4 c =
-    let a = c .before .before .before .before .before .before .before .before .before .before .before .before .before .before .args in
+    let b = c .before .before .before .before .before .before .before in
+    let a = b .before .before .before .before .before .before .before .args in
     let p = centerAt (now (a .candidates)) in
-    let e0 = c .before .before .before .before .before .before .before .before .before .before .pick .ensures in
-    let e1 = c .before .before .before .before .before .before .before .before .before .pick2 .ensures in
-    let e2 = c .before .before .before .before .before .before .before .before .pick3 .ensures in
-    let e3 = c .before .before .before .before .before .before .before .pick4 .ensures in
-    corners-accepted (now (a .candidates)) (now (a .blob-index)) (a .w) (a .h) (a .k) _ _ _
-    (c .before .before .before .before .quad-at .ensures ∙ quad-is p (a .k) _ _ _ _ e0 e1 e2 e3)
-    (c .places-at .ensures ∙ places-are p (a .k) _ _ _ _ e0 e1 e2 e3 (now (a .blob-index)))
-    refl
-    (number-0 _ _ _ _ (c .before .before .before .before .before .before .before .before .before .before .before .if1 .left)
-    (sym (shared-fact (c .before .before .before .before .before .before)) ∙ c .before .before .before .before .before .if2 .left)
-    (sym (bad-fact (c .before .before)) ∙ c .before .if3 .left))
+    let e0 = b .before .before .before .pick .ensures in
+    let e1 = b .before .before .pick2 .ensures in
+    let e2 = b .before .pick3 .ensures in
+    let e3 = b .pick4 .ensures in
+    corners-accepted (now (a .candidates)) (now (a .blob-index)) (a .w) (a .h) (a .k) _ _ _ (c .before .before .before .before .quad-at .ensures ∙
+    quad-is p (a .k) _ _ _ _ e0 e1 e2 e3) (c .places-at .ensures ∙ places-are p (a .k) _ _ _ _ e0 e1 e2 e3 (now (a .blob-index))) refl (number-0 _ _ _
+    _ (b .before .before .before .before .if1 .left) (sym (shared-fact (c .before .before .before .before .before .before)) ∙ c .before .before
+    .before .before .before .if2 .left) (sym (bad-fact (c .before .before)) ∙ c .before .if3 .left))
 
 pub corners-spec : {M : Type 1} → statement M
 corners-spec =

@@ -8,11 +8,11 @@ look-requires c κs = c .before .before .before .before .before .before .before 
 
 corners-requires : tie.Need-corners-requires
 corners-requires c κs =
-    let r = c .before .before .before .before .before .before .before .before .before .before .before .before .before .before .before
-    .before .before .before .before .before .before .before .before .before .before .before .before .before .before .before .before
-    .before .before .before .before .before .pre in
-    let room = candidates-room _ _ _ _ _ _ _ r (c .before .before .before .before .before .before .before .before .before .before .before
-    .before .before .before .before .before .before .before .look .ensures) in
+    let b = c .before .before .before .before .before .before .before .before .before .before .before .before .before .before .before .before .before
+    .before in
+    let r = b .before .before .before .before .before .before .before .before .before .before .before .before .before .before .before .before .before
+    .before .pre in
+    let room = candidates-room _ _ _ _ _ _ _ r (b .look .ensures) in
     (r .capture .w-most, r .capture .h-most, room .0, room .1)
 
 -- where `look` has returned

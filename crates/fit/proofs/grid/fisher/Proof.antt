@@ -19,8 +19,9 @@ int-to-float-result c = held64 _ (search needs)
 
 returns : tie.Need-returns
 unfolding fisherOf ofInt ofBits
-returns c = ap (λ v. v ⊘ (c .before .before .before .before .args .within ⊘ f64 (c .before .before .before .before .args .n) ⊕ f64 1))
-    (c .before .variance .ensures ∙ ap (variance _ _) (c .before .before .mean .ensures))
+returns c =
+    let a = c .before .before .before .before .args in
+    ap (λ v. v ⊘ (a .within ⊘ f64 (a .n) ⊕ f64 1)) (c .before .variance .ensures ∙ ap (variance _ _) (c .before .before .mean .ensures))
 
 pub fisher-spec : {M : Type 1} → statement M
 fisher-spec = tie.close (tie.spec mean-requires variance-requires int-to-float-result returns)

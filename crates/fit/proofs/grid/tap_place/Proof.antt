@@ -14,23 +14,26 @@ int-to-float-cell : tie.Need-int-to-float-cell
 int-to-float-cell c = held64 _ (omega arith)
 
 int-to-float-t12 : tie.Need-int-to-float-t12
-int-to-float-t12 c = held64 _ (omega (
-  arith,
-  c .before .before .cell-origin .ensures .0,
-  product-le (c .before .before .before .args .c)
-      (c .before .before .before .args .frame .cell) 4096 512 (omega arith) (omega arith),
-))
+int-to-float-t12 c =
+    let a = c .before .before .before .args in
+    held64 _ (omega (
+      arith,
+      c .before .before .cell-origin .ensures .0,
+      product-le (a .c) (a .frame .cell) 4096 512 (omega arith) (omega arith),
+    ))
 
 tap-share-requires : tie.Need-tap-share-requires
 tap-share-requires c κs = search needs
 
 int-to-float-t17 : tie.Need-int-to-float-t17
-int-to-float-t17 c = held64 _ (omega (
-  arith,
-  c .before .before .before .before .cell-origin .ensures .1,
-  product-le (c .before .before
-      .before .before .before .args .r) (c .before .before .before .before .before .args .frame .cell) 4096 512 (omega arith) (omega arith),
-))
+int-to-float-t17 c =
+    let a = c .before .before .before .before .before .args in
+    held64 _ (omega (
+      arith,
+      c .before .before .before .before .cell-origin .ensures .1,
+      product-le (a .r) (a .frame .cell) 4096 512 (omega arith)
+          (omega arith),
+    ))
 
 tap-share-requires-2 : tie.Need-tap-share-requires-2
 tap-share-requires-2 c κs = search needs

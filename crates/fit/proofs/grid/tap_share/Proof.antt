@@ -1,6 +1,6 @@
 -- `fit::grid::tap_share` meets its contract. Assumes nothing.
 use lib.Ieee.{ofBits, round}
-use Rattle.fit.proofs.Cases.{from-two}
+use Rattle.base.proofs.Arith.{from-two}
 use Rattle.fit.specs.Grid.{tapShare}
 use Rattle.float.specs.Floats.{d64}
 use mathlib.Core.Path.{refl, sym, ap}

@@ -1,5 +1,5 @@
 -- `fit::internal::grade` meets its contract. Assumes nothing.
-use Rattle.fit.proofs.Walks.{walkOf, tap-in, leaves, grade-out, grade-in, Sums, fisher-filled, filled-put, sum-put, false-true, cols-most, tap-outside-is}
+use Rattle.fit.proofs.Walks.{walkOf, tap-in, leaves, grade-out, grade-in, Sums, fisher-filled, filled-put, sum-put, cols-most, tap-outside-is}
 use Rattle.fit.proofs.Walks.{tap-is, cell-mean-is, cell-variance-is, mean-in, nine}
 use Rattle.fit.specs.declared.Grade.the-variants.{Score}
 use Rattle.fit.specs.Contracts.{sampledCells}
@@ -16,7 +16,7 @@ use borrow.Author.Tests.{lt-ltb, le-ltb}
 use lib.ListN.{replicate, length, length-set}
 use lib.Ieee.{Float, ofInt, ofBits, binary64}
 use mathlib.Core.Logic.{⊎-elim}
-use mathlib.Core.Bool.{true, false}
+use mathlib.Core.Bool.{true, false, false≢true}
 use mathlib.Core.List.{List}
 use Rattle.frame.specs.Frame.{cols}
 use borrow.Author.Needs.{needs}
@@ -96,37 +96,26 @@ tap-outside-requires :
     tie.Need-tap-outside-requires Inv-taps μ-taps Inv-cols μ-cols Inv-rows μ-rows
 tap-outside-requires c κs = search needs
 
-mul-cell : tie.Need-mul-cell Inv-taps μ-taps Inv-cols μ-cols Inv-rows μ-rows
-mul-cell c = record {
-  fits = omega (
-    arith,
+-- the number of a tap's cell is small enough
+cell-number : (c : tie.Then1 Inv-taps μ-taps Inv-cols μ-cols Inv-rows μ-rows) →
+    3 * c .before .before .before .before .before .before .before .before .rows .y
+    * c .before .before .before .before .before .before .before .before .before .before .before .cols2 .result ≤ 4095 * 4096
+cell-number c =
     product-le (3 * c .before .before .before .before .before .before .before .before .rows .y)
-        (c .before .before .before .before .before .before .before .before .before .before .before .cols2 .result) 4095 4096 (omega arith)
-        (omega (
-          arith,
-          c .before .before .before .before .before .before .before .before .before .before .before .cols2 .ensures,
-          cols-most
-              (c .before .before .before .before .before .before .before .before .before .before .before .before .before .before .args .frame)
-              (c .before .before .before .before .before .before .before .before .before .before .before .before .before .before .pre .1),
-        )),
-  );
-}
+    (c .before .before .before .before .before .before .before .before .before .before .before .cols2 .result) 4095 4096 (omega arith)
+    (omega (
+      arith,
+      c .before .before .before .before .before .before .before .before .before .before .before .cols2 .ensures,
+      cols-most
+          (c .before .before .before .before .before .before .before .before .before .before .before .before .before .before .args .frame)
+          (c .before .before .before .before .before .before .before .before .before .before .before .before .before .before .pre .1),
+    ))
+
+mul-cell : tie.Need-mul-cell Inv-taps μ-taps Inv-cols μ-cols Inv-rows μ-rows
+mul-cell c = record { fits = omega (arith, cell-number c) }
 
 add-cell : tie.Need-add-cell Inv-taps μ-taps Inv-cols μ-cols Inv-rows μ-rows
-add-cell c = record {
-  fits = omega (
-    arith,
-    product-le (3 * c .before .before .before .before .before .before .before .before .rows .y)
-        (c .before .before .before .before .before .before .before .before .before .before .before .cols2 .result) 4095 4096 (omega arith)
-        (omega (
-          arith,
-          c .before .before .before .before .before .before .before .before .before .before .before .cols2 .ensures,
-          cols-most
-              (c .before .before .before .before .before .before .before .before .before .before .before .before .before .before .args .frame)
-              (c .before .before .before .before .before .before .before .before .before .before .before .before .before .before .pre .1),
-        )),
-  );
-}
+add-cell c = record { fits = omega (arith, cell-number c) }
 
 reading-requires : tie.Need-reading-requires Inv-taps μ-taps Inv-cols μ-cols Inv-rows μ-rows
 reading-requires c κs = search needs
@@ -168,9 +157,11 @@ cell-mean-requires c κs = search needs
 cell-variance-requires : tie.Need-cell-variance-requires Inv-taps μ-taps Inv-cols μ-cols Inv-rows μ-rows
 cell-variance-requires c κs = search needs
 
-mul-means : tie.Need-mul-means Inv-taps μ-taps Inv-cols μ-cols Inv-rows μ-rows
+-- the place of a cell's mean is one of the list's
+mean-there : (c : tie.After-cell-variance Inv-taps μ-taps Inv-cols μ-cols Inv-rows μ-rows) →
+    c .before .before .before .before .before .cols .n < length (c .before .before .before .before .before .cols .means)
 unfolding sampledCells
-mul-means c =
+mean-there c =
     let a = c .before .before .before .before .before .before .before .before .before .before .before .before .before .args in
     let hx : c .before .before .before .before .before .cols .x < G.across (a .frame) = omega arith in
     let hy : c .before .before .before .before .before .before .before .rows .y < G.down (a .frame) = omega arith in
@@ -183,50 +174,17 @@ mul-means c =
     let m : length (c .before .before .before .before .before .cols .means) ≡ G.down (a .frame) * G.across (a .frame) = c .before .before
     .before .before .before .cols .inv .6 ∙ c .before .before .before .before .before .before .before .rows .inv .6
     ∙ c .before .before .before .before .before .before .before .before .before .before .before .before .before .pre .2 in
-    let h : c .before .before .before .before .before .cols .n < length (c .before .before .before .before .before .cols .means) = mean-in
-    (c .before .before .before .before .before .cols .x) (c .before .before .before .before .before .before .before .rows .y)
-    (G.across (a .frame)) (G.down (a .frame)) _ _ hx hy n m in
-    record { fits = omega arith }
+    mean-in (c .before .before .before .before .before .cols .x) (c .before .before .before .before .before .before .before .rows .y)
+    (G.across (a .frame)) (G.down (a .frame)) _ _ hx hy n m
+
+mul-means : tie.Need-mul-means Inv-taps μ-taps Inv-cols μ-cols Inv-rows μ-rows
+mul-means c = let h = mean-there c in record { fits = omega arith }
 
 slice-write-means : tie.Need-slice-write-means Inv-taps μ-taps Inv-cols μ-cols Inv-rows μ-rows
-unfolding sampledCells
-slice-write-means c =
-    let a = c .before .before .before .before .before .before .before .before .before .before .before .before .before .args in
-    let hx : c .before .before .before .before .before .cols .x < G.across (a .frame) = omega arith in
-    let hy : c .before .before .before .before .before .before .before .rows .y < G.down (a .frame) = omega arith in
-    let n : c .before .before .before .before .before .cols .n ≡ c .before .before .before .before .before .before .before .rows .y *
-    G.across (a .frame) + c .before .before .before .before .before .cols .x = omega (
-      arith,
-      c .before .before .before .before .before
-          .before .before .rows .inv .3,
-    ) in
-    let m : length (c .before .before .before .before .before .cols .means) ≡ G.down (a .frame) * G.across (a .frame) = c .before .before
-    .before .before .before .cols .inv .6 ∙ c .before .before .before .before .before .before .before .rows .inv .6
-    ∙ c .before .before .before .before .before .before .before .before .before .before .before .before .before .pre .2 in
-    let h : c .before .before .before .before .before .cols .n < length (c .before .before .before .before .before .cols .means) = mean-in
-    (c .before .before .before .before .before .cols .x) (c .before .before .before .before .before .before .before .rows .y)
-    (G.across (a .frame)) (G.down (a .frame)) _ _ hx hy n m in
-    h
+slice-write-means c = mean-there c
 
 add-n : tie.Need-add-n Inv-taps μ-taps Inv-cols μ-cols Inv-rows μ-rows
-unfolding sampledCells
-add-n c =
-    let a = c .before .before .before .before .before .before .before .before .before .before .before .before .before .args in
-    let hx : c .before .before .before .before .before .cols .x < G.across (a .frame) = omega arith in
-    let hy : c .before .before .before .before .before .before .before .rows .y < G.down (a .frame) = omega arith in
-    let n : c .before .before .before .before .before .cols .n ≡ c .before .before .before .before .before .before .before .rows .y *
-    G.across (a .frame) + c .before .before .before .before .before .cols .x = omega (
-      arith,
-      c .before .before .before .before .before
-          .before .before .rows .inv .3,
-    ) in
-    let m : length (c .before .before .before .before .before .cols .means) ≡ G.down (a .frame) * G.across (a .frame) = c .before .before
-    .before .before .before .cols .inv .6 ∙ c .before .before .before .before .before .before .before .rows .inv .6
-    ∙ c .before .before .before .before .before .before .before .before .before .before .before .before .before .pre .2 in
-    let h : c .before .before .before .before .before .cols .n < length (c .before .before .before .before .before .cols .means) = mean-in
-    (c .before .before .before .before .before .cols .x) (c .before .before .before .before .before .before .before .rows .y)
-    (G.across (a .frame)) (G.down (a .frame)) _ _ hx hy n m in
-    record { fits = omega arith }
+add-n c = let h = mean-there c in record { fits = omega arith }
 
 add-x : tie.Need-add-x Inv-taps μ-taps Inv-cols μ-cols Inv-rows μ-rows
 add-x c = search needs
@@ -329,7 +287,7 @@ left-sums c f =
       means = w .1 ∙ filled-end _ _ _ _ (l .inv .4) (sym (l .inv .3) ∙ sym (w .4));
       within = w .5 ∙ l .inv .5 ∙ ap (sumOf _) (sym (l .inv .3) ∙ sym (w .4));
     })
-    (λ w. absurd (false-true (sym f ∙ w .9)))
+    (λ w. absurd (false≢true (sym f ∙ w .9)))
     (c .rows-test .came)
 
 same-length : tie.Need-same-length Inv-taps μ-taps Inv-cols μ-cols Inv-rows μ-rows

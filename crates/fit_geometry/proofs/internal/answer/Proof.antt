@@ -23,7 +23,7 @@ returns c =
       places = p .places;
       patches = p .patches;
       candidates = p .candidates;
-      waiting = p .waiting;
+      waited = p .waited;
     })
     (c .before .before .before .verdict-of .ensures)
 

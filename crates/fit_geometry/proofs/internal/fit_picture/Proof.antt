@@ -87,10 +87,11 @@ same-length-17 : tie.Need-same-length-17
 same-length-17 c = c .before .before .before .search-lent .kept .1 .1 .1 .1 .1 .0
 
 returns-2 : tie.Need-returns-2
-returns-2 c = searched-is _ _ _ _ _ _ _ _ _ (c .before .before .before .before .before .before .before .before .before .before .before
-    .before .before .before .before .before .before .before .before .before .before .before .before .detect .ensures) (c .before .before
-    .before .before .before .before .if1 .left) (c .before .before .before .search-lent .ensures .0) (c .before .before .before .search-lent
-    .ensures .1) (c .searched-report .ensures)
+returns-2 c =
+    let b = c .before .before .before .before .before .before in
+    searched-is _ _ _ _ _ _ _ _ _ (b .before .before .before .before .before .before .before .before .before .before .before .before .before .before
+    .before .before .before .detect .ensures) (b .if1 .left) (c .before .before .before .search-lent .ensures .0) (c .before .before .before
+    .search-lent .ensures .1) (c .searched-report .ensures)
 
 pub fit-picture-spec : {M : Type 1} → statement M
 fit-picture-spec =

@@ -26,7 +26,7 @@ returns c =
     let n = c .before .before .before .before .args .number in
     let e : c .before .before .result .result ≡ begun 0 0 = c .before .before .result .ensures ∙ ap (λ (s : Search). s .stage) (c .before .before .before .begin .ensures) in
     c .answer .ensures
-    ∙ ap answerOf (λ i. record { number = n; stage = e i; places = c .before .no-places .ensures i; patches = 0; candidates = 0; waiting = 0 })
+    ∙ ap answerOf (λ i. record { number = n; stage = e i; places = c .before .no-places .ensures i; patches = 0; candidates = 0; waited = 0 })
 
 pub refused-by-test-spec : {M : Type 1} → statement M
 refused-by-test-spec = tie.close (tie.spec begin-requires result-requires no-places-requires answer-requires returns)

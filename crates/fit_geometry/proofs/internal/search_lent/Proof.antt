@@ -3,8 +3,8 @@ use native.Mathlib.Omega.{arith}
 use Prim.Native.Nat.{_≤_}
 use mathlib.Core.Path.{sym, _∙_}
 use lib.ListN.{length}
-use lib.Seq.{length-take-le}
-use Rattle.fit.proofs.Lent.{lent-length, lent-rest}
+use lib.Seq.{length-take-le, length-front}
+use Rattle.base.proofs.Parts.{lent-rest}
 use borrow.Author.Needs.{needs}
 use Rattle.fit_geometry.proofs.internal.search_lent.Statement.{statement}
 use Rattle.fit_geometry.proofs.internal.search_lent.Tie as tie
@@ -26,8 +26,9 @@ search-requires : tie.Need-search-requires
 search-requires c κs = let p = c .before .before .before .before .pre in (p .0, p .1, length-take-le _ _ (long (c .before)) ∙ c .before .sampled-cells .ensures .0)
 
 same-length : tie.Need-same-length
-same-length c = lent-length (c .before .before .search .last .1 .1 .1 .1 .1 .0) (c .before .before .before .before .before .before .before
-    .args .means .now) (c .before .before .before .before .sampled-cells .result) (long (c .before .before .before .before))
+same-length c =
+    length-front (c .before .before .before .before .before .before .before .args .means .now)
+    (c .before .before .search .last .1 .1 .1 .1 .1 .0) (c .before .before .before .before .sampled-cells .result)
     (c .before .before .search .kept .1 .1 .1 .1 .1 .0)
 
 returns : tie.Need-returns
@@ -38,7 +39,7 @@ returns c =
     let k = c .before .before .search .kept .1 .1 .1 .1 .1 .0 in (
       c .before .before .search .ensures,
       (
-        lent-length x l n (long (c .before .before .before .before)) k,
+        length-front l x n k,
         lent-rest x l n _
             (long (c .before .before .before .before)) k (c .before .before .before .before .sampled-cells .ensures .0),
       ),

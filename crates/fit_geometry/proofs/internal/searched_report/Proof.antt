@@ -21,7 +21,7 @@ unfolding keeps
 returns c =
     let a = c .before .before .before .args in
     ap
-    (λ (s : Places). record { number = 10; stage = a .stage; places = s; patches = a .d .patches; candidates = a .d .candidates; waiting = a .d .waiting })
+    (λ (s : Places). record { number = 10; stage = a .stage; places = s; patches = a .d .patches; candidates = a .d .candidates; waited = a .d .waited })
     (c .no-places .ensures)
     ∙ report-none (a .d) (a .stage) (ap keeps (c .before .enum-told .given .1))
 

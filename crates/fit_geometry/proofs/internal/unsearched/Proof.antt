@@ -22,7 +22,7 @@ unfolding unsearched beginning
 returns c =
     let d = c .before .before .before .args .d in
     let e : c .before .result .result ≡ begun 0 0 = c .before .result .ensures ∙ ap (λ (s : Search). s .stage) (c .before .before .begin .ensures) in
-    λ i. record { number = d .number; stage = e i; places = c .no-places .ensures i; patches = d .patches; candidates = d .candidates; waiting = d .waiting }
+    λ i. record { number = d .number; stage = e i; places = c .no-places .ensures i; patches = d .patches; candidates = d .candidates; waited = d .waited }
 
 pub unsearched-spec : {M : Type 1} → statement M
 unsearched-spec = tie.close (tie.spec begin-requires result-requires no-places-requires returns)

@@ -9,7 +9,9 @@ use lib.Count.{leadingZeros}
 use lib.Ieee.{Float, binary64, fits, toBits, ofBits, div, units}
 use lib.Ieee.Positive.{above, positive}
 use Rattle.float.specs.Root.{nearestRoot, sqrtOf, NearestRoot}
-use Rattle.float.proofs.root.Cases.{over-zero, over-number, Moved, moved, shl-is, subnormal, normal, infinite, Rooted, inf-root, inf-bound, at-zero, zero-bound, below-zero, below-bound}
+use Rattle.float.proofs.Numbers.{above-number}
+use Rattle.float.proofs.root.Cases.{over-zero, Moved, moved, shl-is, subnormal, normal, infinite, Rooted}
+use Rattle.float.proofs.root.Cases.{inf-root, inf-bound, at-zero, zero-bound, below-zero, below-bound}
 use Rattle.float.proofs.root.sqrt.Statement.{statement}
 use Rattle.float.proofs.root.sqrt.Tie as tie
 
@@ -23,7 +25,7 @@ lead : (c : tie.Then2) → Moved (c .before .before .args .x) (held (c .before .
 lead c = moved (c .before .before .args .x) (held (c .before .before)) (over (c .before)) (c .if2 .taken)
 
 float-to-bits-b : tie.Need-float-to-bits-b
-float-to-bits-b c = over-number _ (over c)
+float-to-bits-b c = above-number _ (over c)
 
 cast-z : tie.Need-cast-z
 cast-z c = let l = lead c .zeros in let f = lead c .few in omega arith

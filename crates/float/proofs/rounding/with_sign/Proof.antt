@@ -17,7 +17,9 @@ int-to-float-result-2 c = le→leb _ _ (c .before .before .pre)
 
 returns : tie.Need-returns
 unfolding ofInt
-returns c = round-neg binary64 (c .before .before .args .n) 1 ∙ ap (λ (s : Bool). round binary64 s (c .before .before .args .n) 1) (sym (c .before .if1 .taken))
+returns c =
+    let a = c .before .before .args in
+    round-neg binary64 (a .n) 1 ∙ ap (λ (s : Bool). round binary64 s (a .n) 1) (sym (c .before .if1 .taken))
 
 returns-2 : tie.Need-returns-2
 unfolding ofInt

@@ -4,8 +4,9 @@ use Prim.Native.Nat.{_/_, _^_, _≤_}
 use native.Mathlib.Nat.{le-trans, lt-of-le-of-lt, le-of-eq}
 use lib.Dec.{T, lit≤}
 use lib.Ieee.{binary64, fits, le, ofBits, toBits}
+use Rattle.base.proofs.Tests.{holds, holds-not}
 use Rattle.std.proofs.num.Truncating.{one, at-least-one, is-no-nan, down-by, cut-down}
-use Rattle.float.proofs.whole.Saturate.{yes, no, over, capped, in-range, nothing, InRange}
+use Rattle.float.proofs.whole.Saturate.{over, capped, in-range, nothing, InRange}
 use Rattle.float.proofs.whole.Exponent.{exponent}
 use Rattle.float.proofs.whole.to_u8.Statement.{statement}
 use Rattle.float.proofs.whole.to_u8.Tie as tie
@@ -18,11 +19,11 @@ least c = at-least-one (c .before .args .x) (c .if1 .taken)
 
 range : (c : tie.Then2) → InRange 8 (c .before .before .args .x)
 unfolding ofBits
-range c = in-range 8 _ (lit≤ tt) (over _ (c .before .if1 .taken)) (yes (c .if2 .taken))
+range c = in-range 8 _ (lit≤ tt) (over _ (c .before .if1 .taken)) (holds (c .if2 .taken))
 
 few : (c : tie.Then2) → toBits binary64 (c .before .before .args .x) / 2 ^ 52 ≤ 1075
 unfolding ofBits
-few c = le-trans (exponent 8 _ (held (c .before .before)) (over _ (c .before .if1 .taken)) (yes (c .if2 .taken))) (lit≤ tt)
+few c = le-trans (exponent 8 _ (held (c .before .before)) (over _ (c .before .if1 .taken)) (holds (c .if2 .taken))) (lit≤ tt)
 
 float-to-bits-b : tie.Need-float-to-bits-b
 float-to-bits-b c = is-no-nan _ (held (c .before .before)) (least (c .before)) (range c .high)
@@ -41,7 +42,7 @@ returns c = cut-down _ (held (c .before .before)) (least (c .before)) (range c .
 
 returns-2 : tie.Need-returns-2
 unfolding ofBits
-returns-2 c = capped 8 _ (over _ (c .before .if1 .taken)) (no (c .if2 .left))
+returns-2 c = capped 8 _ (over _ (c .before .if1 .taken)) (holds-not (c .if2 .left))
 
 returns-3 : tie.Need-returns-3
 returns-3 c = nothing 8 _ (c .if1 .left)

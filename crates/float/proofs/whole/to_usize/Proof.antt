@@ -5,8 +5,9 @@ use Prim.Native.Nat.{_/_, _^_, _≤_}
 use native.Mathlib.Nat.{le-trans}
 use lib.Dec.{T, lit≤}
 use lib.Ieee.{binary64, fits, le, ofBits, toBits}
+use Rattle.base.proofs.Tests.{holds}
 use Rattle.std.proofs.num.Truncating.{one, at-least-one, is-no-nan, down-by, cut-down}
-use Rattle.float.proofs.whole.Saturate.{yes, over, in-range, nothing, InRange}
+use Rattle.float.proofs.whole.Saturate.{over, in-range, nothing, InRange}
 use Rattle.float.proofs.whole.Exponent.{exponent}
 use Rattle.float.proofs.whole.to_usize.Statement.{statement}
 use Rattle.float.proofs.whole.to_usize.Tie as tie
@@ -19,11 +20,11 @@ least c = at-least-one (c .before .args .x) (c .if1 .taken)
 
 range : (c : tie.Then2) → InRange 53 (c .before .before .args .x)
 unfolding ofBits
-range c = in-range 53 _ (lit≤ tt) (over _ (c .before .if1 .taken)) (yes (c .if2 .taken))
+range c = in-range 53 _ (lit≤ tt) (over _ (c .before .if1 .taken)) (holds (c .if2 .taken))
 
 few : (c : tie.Then2) → toBits binary64 (c .before .before .args .x) / 2 ^ 52 ≤ 1075
 unfolding ofBits
-few c = le-trans (exponent 53 _ (held (c .before .before)) (over _ (c .before .if1 .taken)) (yes (c .if2 .taken))) (lit≤ tt)
+few c = le-trans (exponent 53 _ (held (c .before .before)) (over _ (c .before .if1 .taken)) (holds (c .if2 .taken))) (lit≤ tt)
 
 float-to-bits-b : tie.Need-float-to-bits-b
 float-to-bits-b c = is-no-nan _ (held (c .before .before)) (least (c .before)) (range c .high)

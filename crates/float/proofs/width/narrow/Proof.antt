@@ -12,8 +12,8 @@ use lib.Ieee.{Float, nan, binary64, fits, isNan, div, ofBits, toBits}
 use lib.Ieee.Bits.{toBits-lt}
 use lib.Ieee.Compare.{differs-from-itself}
 use Rattle.float.specs.Floats.{narrowed}
-use Rattle.float.proofs.whole.Saturate.{yes}
 use Rattle.base.proofs.Floats.{not-nan}
+use Rattle.base.proofs.Tests.{holds}
 use Rattle.float.proofs.width.Ranges.{in-normal, in-overflow, in-coded, in-zero, half-bounds}
 
 held : (c : tie.Start) → T (fits binary64 (c .args .x))
@@ -27,7 +27,7 @@ bits-lt c = toBits-lt binary64 (c .before .args .x) (held (c .before))
 
 returns : tie.Need-returns
 unfolding div ofBits narrowed
-returns c = subst (λ (y : Float). nan ≡ narrowed y) (sym (differs-from-itself _ (yes (c .if1 .taken)))) refl
+returns c = subst (λ (y : Float). nan ≡ narrowed y) (sym (differs-from-itself _ (holds (c .if1 .taken)))) refl
 
 float-to-bits-b : tie.Need-float-to-bits-b
 float-to-bits-b c = number c

@@ -1,29 +1,23 @@
 -- `frame::internal::rows` meets its contract. Assumes nothing.
-use Prim.Native.Nat.{_/_, _*_, _-_}
-use mathlib.Core.Path.{_≡_, refl, sym, ap, _∙_}
-use native.Mathlib.Nat.{zero-div}
-use native.Mathlib.Omega.{arith}
+use Prim.Native.Nat.{_/_}
+use mathlib.Core.Path.{ap}
 use borrow.Author.Needs.{needs}
 use Rattle.frame.specs.Frame.{rows}
 use Rattle.frame.proofs.internal.rows.Statement.{statement}
 use Rattle.frame.proofs.internal.rows.Tie as tie
 
-mul-twice : tie.Need-mul-twice
-mul-twice c = search needs
+mul-saturating-sub : tie.Need-mul-saturating-sub
+mul-saturating-sub c = search needs
 
-returns : tie.Need-returns
-unfolding rows
-returns c =
-    let f = c .before .before .before .args .frame in
-    let e : f .height - 2 * f .margin ≡ 0 = omega arith in
-    sym (ap (λ z. z / f .cell) e ∙ zero-div (f .cell))
+saturating-sub-requires : tie.Need-saturating-sub-requires
+saturating-sub-requires c κs = search needs
 
 div-result : tie.Need-div-result
 div-result c = search needs
 
-returns-2 : tie.Need-returns-2
+returns : tie.Need-returns
 unfolding rows
-returns-2 c = refl
+returns c = ap (λ z. z / c .before .before .before .args .frame .cell) (c .before .saturating-sub .ensures)
 
 pub rows-spec : {M : Type 1} → statement M
-rows-spec = tie.close (tie.spec mul-twice returns div-result returns-2)
+rows-spec = tie.close (tie.spec mul-saturating-sub saturating-sub-requires div-result returns)

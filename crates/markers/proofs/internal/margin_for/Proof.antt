@@ -16,7 +16,9 @@ mul-result : tie.Need-mul-result
 mul-result c = omega (arith, quiet-most (c .before .before .args .cell))
 
 add-result : tie.Need-add-result
-add-result c = omega (arith, quiet-most (c .before .before .args .cell), marker-size-most (c .before .before .args .cell))
+add-result c =
+    let a = c .before .before .args in
+    omega (arith, quiet-most (a .cell), marker-size-most (a .cell))
 
 returns : tie.Need-returns
 unfolding marginFor

@@ -9,16 +9,15 @@ use Rattle.markers.proofs.internal.marker.Tie as tie
 quiet-zone-requires : tie.Need-quiet-zone-requires
 quiet-zone-requires c κs = search needs
 
-mul-twice : tie.Need-mul-twice
-mul-twice c = omega (arith, quiet-most (c .before .args .frame .cell))
+mul-saturating-sub : tie.Need-mul-saturating-sub
+mul-saturating-sub c = omega (arith, quiet-most (c .before .args .frame .cell))
+
+saturating-sub-requires : tie.Need-saturating-sub-requires
+saturating-sub-requires c κs = search needs
 
 returns : tie.Need-returns
 unfolding marker
 returns c = omega arith
 
-returns-2 : tie.Need-returns-2
-unfolding marker
-returns-2 c = omega arith
-
 pub marker-spec : {M : Type 1} → statement M
-marker-spec = tie.close (tie.spec quiet-zone-requires mul-twice returns returns-2)
+marker-spec = tie.close (tie.spec quiet-zone-requires mul-saturating-sub saturating-sub-requires returns)

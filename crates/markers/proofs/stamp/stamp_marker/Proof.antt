@@ -26,18 +26,13 @@ same-length c = search needs
 returns : tie.Need-returns
 unfolding bullseye ofInt ofBits
 returns c =
-    let a = c .before .before .before .before .before .before .before .before .before .before .before .before .before .before .before .before .before .args in
+    let b = c .before .before .before .before .before .before in
+    let a = b .before .before .before .before .before .before .before .before .before .before .before .args in
     let u = a .m ⊘ f64 6 in
-    four-squares (a .w) (a .h)
-    (square (a .x ⊖ a .q) (a .y ⊖ a .q) (a .m ⊕ f64 2 ⊗ a .q) white)
-    (square (a .x) (a .y) (a .m) black)
-    (square (a .x ⊕ u) (a .y ⊕ u) (f64 4 ⊗ u) white)
-    (square (a .x ⊕ f64 2 ⊗ u) (a .y ⊕ f64 2 ⊗ u) (f64 2 ⊗ u) black)
-    (a .bytes .now) _ _ _ _ (c .before .before .before .before .before .before .before .before .before .before .before .before .before .before .before .before .before .pre .2)
-    (c .before .before .before .before .before .before .before .before .before .before .before .before .before .before .fill .ensures)
-    (c .before .before .before .before .before .before .before .before .before .before .fill2 .ensures)
-    (c .before .before .before .before .before .before .fill3 .ensures)
-    (c .before .before .fill4 .ensures)
+    four-squares (a .w) (a .h) (square (a .x ⊖ a .q) (a .y ⊖ a .q) (a .m ⊕ f64 2 ⊗ a .q) white) (square (a .x) (a .y) (a .m) black) (square (a .x ⊕ u)
+    (a .y ⊕ u) (f64 4 ⊗ u) white) (square (a .x ⊕ f64 2 ⊗ u) (a .y ⊕ f64 2 ⊗ u) (f64 2 ⊗ u) black) (a .bytes .now) _ _ _ _ (b .before .before .before
+    .before .before .before .before .before .before .before .before .pre .2) (b .before .before .before .before .before .before .before .before .fill
+    .ensures) (b .before .before .before .before .fill2 .ensures) (b .fill3 .ensures) (c .before .before .fill4 .ensures)
 
 pub stamp-marker-spec : {M : Type 1} → statement M
 stamp-marker-spec =

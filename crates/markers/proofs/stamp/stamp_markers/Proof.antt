@@ -23,18 +23,13 @@ same-length c = search needs
 returns : tie.Need-returns
 unfolding bullseyes
 returns c =
-    let a = c .before .before .before .before .before .before .before .before .before .before .before .before .before .before .before .before .before .args in
+    let b = c .before .before .before .before .before .before in
+    let a = b .before .before .before .before .before .before .before .before .before .before .before .args in
     let k = bullseye (a .m) (a .q) in
-    four-lists (a .w) (a .h)
-    (k (a .o .tl .x) (a .o .tl .y))
-    (k (a .o .tr .x) (a .o .tr .y))
-    (k (a .o .br .x) (a .o .br .y))
-    (k (a .o .bl .x) (a .o .bl .y))
-    (a .bytes .now) _ _ _ _ (c .before .before .before .before .before .before .before .before .before .before .before .before .before .before .before .before .before .pre .2)
-    (c .before .before .before .before .before .before .before .before .before .before .before .before .before .before .stamp-marker .ensures)
-    (c .before .before .before .before .before .before .before .before .before .before .stamp-marker2 .ensures)
-    (c .before .before .before .before .before .before .stamp-marker3 .ensures)
-    (c .before .before .stamp-marker4 .ensures)
+    four-lists (a .w) (a .h) (k (a .o .tl .x) (a .o .tl .y)) (k (a .o .tr .x) (a .o .tr .y)) (k (a .o .br .x) (a .o .br .y)) (k (a .o .bl .x) (a .o
+    .bl .y)) (a .bytes .now) _ _ _ _ (b .before .before .before .before .before .before .before .before .before .before .before .pre .2) (b .before
+    .before .before .before .before .before .before .before .stamp-marker .ensures) (b .before .before .before .before .stamp-marker2 .ensures) (b
+    .stamp-marker3 .ensures) (c .before .before .stamp-marker4 .ensures)
 
 pub stamp-markers-spec : {M : Type 1} → statement M
 stamp-markers-spec =

@@ -7,14 +7,14 @@ use Rattle.mask.proofs.internal.box_mean.Statement.{statement}
 use Rattle.mask.proofs.internal.box_mean.Tie as tie
 
 box : (c : tie.After-min2) → Corners (c .before .before .before .before .before .args .w) (c .before .before .before .before .before .args
-    .h) (c .before .before .before .minus .result) (c .before .before .min .result) (c .before .minus2 .result) (c .min2 .result)
+    .h) (c .before .before .before .saturating-sub .result) (c .before .before .min .result) (c .before .saturating-sub2 .result) (c .min2 .result)
 box c = corners _ _ _ _ _ _ (omega arith) (omega arith) (omega arith) (omega arith) (omega arith) (omega arith)
 
 add-s : tie.Need-add-s
 add-s c = search needs
 
-minus-requires : tie.Need-minus-requires
-minus-requires c κs = search needs
+saturating-sub-requires : tie.Need-saturating-sub-requires
+saturating-sub-requires c κs = search needs
 
 add-min : tie.Need-add-min
 add-min c = search needs
@@ -25,8 +25,8 @@ add-min-2 c = search needs
 min-requires : tie.Need-min-requires
 min-requires c κs = search needs
 
-minus-requires-2 : tie.Need-minus-requires-2
-minus-requires-2 c κs = search needs
+saturating-sub-requires-2 : tie.Need-saturating-sub-requires-2
+saturating-sub-requires-2 c κs = search needs
 
 add-min-3 : tie.Need-add-min-3
 add-min-3 c = search needs
@@ -105,9 +105,9 @@ returns c =
     let k = c .before .before .before .before .before .before in
     let a = k .before .before .before .before .before .args in
     box-is (entryAt (a .integral .now) (a .w)) (a .w) (a .h) (a .radius) (a .x) (a .y) _ _ _ _ _ _
-    (k .before .before .before .minus .ensures)
+    (k .before .before .before .saturating-sub .ensures)
     (k .before .before .min .ensures)
-    (k .before .minus2 .ensures)
+    (k .before .saturating-sub2 .ensures)
     (k .min2 .ensures)
     (c .before .to-f64 .ensures)
     (c .narrow .ensures)
@@ -117,11 +117,11 @@ box-mean-spec =
     tie.close
     (tie.spec
     add-s
-    minus-requires
+    saturating-sub-requires
     add-min
     add-min-2
     min-requires
-    minus-requires-2
+    saturating-sub-requires-2
     add-min-3
     add-min-4
     min-requires-2

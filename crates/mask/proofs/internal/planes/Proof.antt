@@ -90,17 +90,17 @@ same-length-3 c = search needs
 
 returns : tie.Need-returns
 returns c =
-    let a = c .before .before .before .before .before .before .before .before .before .before .before .before .before .before .before .before .before .before .before .before .args in
+    let b = c .before .before .before .before .before .before in
+    let a = b .before .before .before .before .before .before .before .before .before .before .before .before .before .before .args in
     let img = image (a .w) (a .h) (a .capture .now) in
-    let p = plane-is (c .before .before .before .before .before .before .before .before .before .before .before .before .before .before) in
+    let p = plane-is (b .before .before .before .before .before .before .before .before) in
     record {
-      luma-is = c .before .before .before .before .before .before .before .before .before .before .before .before .before .before .luma-plane .ensures;
-      integral-is = c .before .before .before .before .before .before .before .before .before .integral-plane .ensures
-          ∙ ap (λ l. filled (integralEntry l (a .w)) ((a .w + 1) * (a .h + 1)) (a .integral .now)) p;
-      mask-is =
-          c .before .before .adaptive-black-mask .ensures
-          ∙ ap (λ l. filled (darkEntry l (a .w) (a .h) (c .before .before .before .before .before .before .radius .result)) (a .w * a .h) (a .mask .now)) p
-          ∙ ap (λ r. filled (darkEntry (lumaPlane img) (a .w) (a .h) r) (a .w * a .h) (a .mask .now)) (c .before .before .before .before .before .before .radius .ensures .0);
+      luma-is = b .before .before .before .before .before .before .before .before .luma-plane .ensures;
+      integral-is = b .before .before .before
+          .integral-plane .ensures ∙ ap (λ l. filled (integralEntry l (a .w)) ((a .w + 1) * (a .h + 1)) (a .integral .now)) p;
+      mask-is = c .before .before
+          .adaptive-black-mask .ensures ∙ ap (λ l. filled (darkEntry l (a .w) (a .h) (b .radius .result)) (a .w * a .h) (a .mask .now)) p ∙ ap (λ r. filled
+          (darkEntry (lumaPlane img) (a .w) (a .h) r) (a .w * a .h) (a .mask .now)) (b .radius .ensures .0);
     }
 
 pub planes-spec : {M : Type 1} → statement M

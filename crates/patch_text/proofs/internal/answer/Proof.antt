@@ -11,7 +11,9 @@ use Rattle.patch_text.proofs.internal.answer.Statement.{statement}
 use Rattle.patch_text.proofs.internal.answer.Tie as tie
 
 slice-aggregate-answer-text : tie.Need-slice-aggregate-answer-text
-slice-aggregate-answer-text c = sym (length-take-le (c .before .before .args .n) (now (c .before .before .args .input)) (c .before .before .pre))
+slice-aggregate-answer-text c =
+    let a = c .before .before .args in
+    sym (length-take-le (a .n) (now (a .input)) (c .before .before .pre))
 
 slice-aggregate-answer-text-2 : tie.Need-slice-aggregate-answer-text-2
 slice-aggregate-answer-text-2 c = search needs

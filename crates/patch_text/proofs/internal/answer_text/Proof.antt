@@ -7,6 +7,7 @@ use borrow.Author.Needs.{needs}
 use lib.ListN.{length, take}
 use lib.Seq.{length-take-le}
 use Rattle.base.specs.Loops.{table}
+use Rattle.blobs.specs.Areas.{patchAreas}
 use Rattle.blobs.specs.Labels.{Labels}
 use Rattle.blobs.proofs.Refused.{long-enough}
 use Rattle.patch_text.specs.Text.{Reads}
@@ -51,34 +52,35 @@ labels : (c : tie.After-label-blobs)
     .before .before .before .before .before .before .before .before .before .mask-size .result .h) (c .before .before .before .before
     .before .before .before .fill .last .1 .1 .1 .0)) (c .before .before .before .before .before .before .before .before .before .before
     .mask-size .result .w) (c .before .before .before .before .before .before .before .before .before .before .mask-size .result .h)
-    (now (c .before .before .before .before .before .before .before .before .before .before .before .before .before .before .before
+    (patchAreas (now (c .before .before .before .before .before .before .before .before .before .before .before .before .before .before .before
     .before .before .args .seen)) (now (c .before .before .before .before .before .before .before .before .before .before .before
     .before .before .before .before .before .before .args .waiting)) (now (c .before .before .before .before .before .before .before
-    .before .before .before .before .before .before .before .before .before .before .args .patches)) (c .label-blobs .last .1 .1 .1 .0)
-    (c .label-blobs .last .1 .1 .1 .1 .0) (c .label-blobs .last .1 .1 .1 .1 .1 .0) (c .label-blobs .result .patches) (c .label-blobs
-    .result .waiting)
+    .before .before .before .before .before .before .before .before .before .before .args .patches)))
+    (patchAreas (c .label-blobs .last .1 .1 .1 .0) (c .label-blobs .last .1 .1 .1 .1 .0) (c .label-blobs .last .1 .1 .1 .1 .1 .0))
+    (c .label-blobs .result .patches) (c .label-blobs .result .waited)
 labels c =
-    let a = c .before .before .before .before .before .before .before .before .before .before .before .before .before .before .before .before .before in
+    let a = c .before .before .before .before .before .before .before .before .before .before .before .before .before .before .before .before .before
+    in
     let s = c .before .before .before .before .before .before .before .before .before .before .mask-size .result in
     let r = reads (c .before .before .before .before .before .before .before .before .before) in
     let z = reads-area r in
-    c .label-blobs .ensures .accepted
-    (sym (long-enough (s .w) (s .h) (length (take (s .w * s .h) (c .before .before .before .before .before .before .before .fill .last .1 .1
-    .1 .0))) (length (now (a .args .seen))) (length (now (a .args .waiting))) (length (now (a .args .patches))) (reads-sides r)
-    (length-take-le (s .w * s .h) (c .before .before .before .before .before .before .before .fill .last .1 .1 .1 .0)
-    (long (c .before .before .before .before .before))) (omega (arith, z, a .pre .1)) (omega (arith, z, a .pre .2))
-    (omega (arith, z, a .pre .3))))
+    c .label-blobs .ensures .accepted (sym (long-enough (s .w) (s .h) (length (take (s .w * s .h) (c .before .before .before .before .before .before
+    .before .fill .last .1 .1 .1 .0))) (length (now (a .args .seen))) (length (now (a .args .waiting))) (length (now (a .args .patches))) (reads-sides
+    r) (length-take-le (s .w * s .h) (c .before .before .before .before .before .before .before .fill .last .1 .1 .1 .0) (long (c .before .before
+    .before .before .before))) (omega (arith, z, a .pre .1)) (omega (arith, z, a .pre .2)) (omega (arith, z, a .pre .3))))
 
 -- so many patches at most
 few : (c : tie.After-label-blobs) → c .label-blobs .result .patches ≤ 2048
-few c = omega (
-  arith,
-  labels c .records .few,
-  length-take-le (c .before .before .before .before .before .before .before .before .before
-      .before .mask-size .result .w * c .before .before .before .before .before .before .before .before .before .before .mask-size .result .h)
-      (c .before .before .before .before .before .before .before .fill .last .1 .1 .1 .0) (long (c .before .before .before .before .before)),
-  reads-area (reads (c .before .before .before .before .before .before .before .before .before)),
-)
+few c =
+    omega (
+      arith,
+      labels c .records .few,
+      length-take-le (c .before .before .before .before .before .before .before .before .before .before
+          .mask-size .result .w * c .before .before .before .before .before .before .before .before .before .before .mask-size .result .h) (c .before
+          .before .before .before .before .before .before .fill .last .1 .1 .1 .0) (long (c .before .before .before .before .before)),
+      reads-area (reads (c
+          .before .before .before .before .before .before .before .before .before)),
+    )
 
 mask-size-requires : tie.Need-mask-size-requires
 mask-size-requires c κs = search needs
@@ -147,28 +149,26 @@ same-length-6 c = search needs
 
 returns-2 : tie.Need-returns-2
 returns-2 c =
-    let a = c .before .before .before .before .before .before .before .before .before .before .before .before .before .before .before
-    .before .before .before .before .before .before .before .before .before .before .before .before .before .args in
-    let s = c .before .before .before .before .before .before .before .before .before .before .before .before .before .before .before
-    .before .before .before .before .before .before .mask-size .result in
+    let b = c .before .before .before .before .before .before .before .before .before .before .before in
+    let a = b .before .before .before .before .before .before .before .before .before .before .before .before .before .before .before .before .before
+    .args in
+    let s = b .before .before .before .before .before .before .before .before .before .before .mask-size .result in
     let l = labels (c .before .before .before .before .before .before .before .before .before .before .before) in
     let v = c .before .before .list in (
-      accepted (s .w) (s .h) _ (subst (Reads (now (a .text)) (s .w) (s .h)) (sym (part (c .before .before .before .before .before .before
-          .before .before .before .before .before .before .before .before .before .before))) (reads (c .before .before .before .before .before
-          .before .before .before .before .before .before .before .before .before .before .before .before .before .before .before)))
-          (record {
+      accepted (s .w) (s .h) _ (subst (Reads (now (a .text)) (s .w) (s .h)) (sym (part (b .before .before .before .before .before))) (reads (b .before
+          .before .before .before .before .before .before .before .before))) (record {
             before = now (a .patches);
-            list = c .before .before .before .before .before .before .before .before .before .before
-                .before .label-blobs .last .1 .1 .1 .1 .1 .0;
-            count = c .before .before .before .before .before .before .before .before .before
-                .before .before .label-blobs .result .patches;
+            list = b .label-blobs .last .1 .1 .1 .1 .1
+                .0;
+            count = b .label-blobs .result .patches;
             firsts = l .firsts;
             patches = l .records;
             text = v .ensures .0;
           }),
       (
         v .ensures .1,
-        sym (length-take-le (v .result) (v .last .1 .1 .1 .1 .0) (v .ensures .1)),
+        sym
+            (length-take-le (v .result) (v .last .1 .1 .1 .1 .0) (v .ensures .1)),
       ),
     )
 

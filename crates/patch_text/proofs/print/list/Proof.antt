@@ -30,21 +30,34 @@ put-records-requires c κs =
     (omega (arith, g .0, v .ensures .to, v .kept .0, u .ensures .to, u .kept .0, t .ensures .to, t .kept .0), g .1)
 
 same-length : tie.Need-same-length
-same-length c = c .before .before .put-records .kept .0 ∙ c .before .before .before .before .before .before .put3 .kept .0
-    ∙ c .before .before .before .before .before .before .before .before .before .before .put2 .kept .0 ∙ c .before .before .before .before
-    .before .before .before .before .before .before .before .before .before .before .put .kept .0
+same-length c =
+    let b = c .before .before .before .before .before .before in
+    c .before .before .put-records .kept .0 ∙ b .put3 .kept .0 ∙ b .before .before .before .before .put2 .kept .0 ∙ b .before .before .before .before
+    .before .before .before .before .put .kept .0
 
 returns : tie.Need-returns
 returns c =
-    let a = c .before .before .before .before .before .before .before .before .before .before .before .before .before .before .before .before .before .before in
+    let a = c .before .before .before .before .before .before .before .before .before .before .before .before .before .before .before .before .before
+    .before in
     let v = c .before .before .before .before .before .before .before .before .before .before .before .before .before .before .put in
     let u = c .before .before .before .before .before .before .before .before .before .before .put2 in
     let t = c .before .before .before .before .before .before .put3 in
     let r = c .before .before .put-records in (
-      listed-text (now (a .args .out)) (v .last .0) (u .last .0) (t .last .0) (r .last .0) (v .result) (u .result) (t .result) (r .result)
-          (a .args .w) (a .args .h) (a .args .n) (patchAt (now (a .args .patches))) (v .ensures) (u .ensures) (t .ensures) (r .ensures),
-      omega
-          (arith, a .pre .0, v .ensures .to, v .kept .0, u .ensures .to, u .kept .0, t .ensures .to, t .kept .0, r .ensures .to, r .kept .0),
+      listed-text (now (a .args .out)) (v .last .0) (u .last .0) (t .last .0) (r .last .0) (v .result) (u .result) (t .result) (r .result) (a .args
+          .w) (a .args .h) (a .args .n) (patchAt (now (a .args .patches))) (v .ensures) (u .ensures) (t .ensures) (r .ensures),
+      omega (
+        arith,
+        a .pre .0,
+        v
+            .ensures .to,
+        v .kept .0,
+        u .ensures .to,
+        u .kept .0,
+        t .ensures .to,
+        t .kept .0,
+        r .ensures .to,
+        r .kept .0,
+      ),
     )
 
 pub list-spec : {M : Type 1} → statement M

@@ -14,130 +14,134 @@ put-requires-2 : tie.Need-put-requires-2
 put-requires-2 c κs = omega (arith, c .before .before .before .before .before .before .pre, c .before .before .before .put .ensures .to, c .before .before .before .put .kept .0)
 
 put-requires-3 : tie.Need-put-requires-3
-put-requires-3 c κs = omega (
-  arith,
-  c .before .before .before .before .before .before .before .before .before .before .pre,
-  c .before
-      .before .before .put2 .ensures .to,
-  c .before .before .before .put2 .kept .0,
-  c .before .before .before .before .before .before .before
-      .put .ensures .to,
-  c .before .before .before .before .before .before .before .put .kept .0,
-)
+put-requires-3 c κs =
+    omega (
+      arith,
+      c .before .before .before .before .before .before .before .before .before .before .pre,
+      c .before .before .before .put2 .ensures
+          .to,
+      c .before .before .before .put2 .kept .0,
+      c .before .before .before .before .before .before .before .put .ensures .to,
+      c .before .before
+          .before .before .before .before .before .put .kept .0,
+    )
 
 put-requires-4 : tie.Need-put-requires-4
-put-requires-4 c κs = omega (
-  arith,
-  c .before .before .before .before .before .before .before .before .before .before .before .before
-      .before .before .pre,
-  c .before .before .before .put3 .ensures .to,
-  c .before .before .before .put3 .kept .0,
-  c .before .before .before
-      .before .before .before .before .put2 .ensures .to,
-  c .before .before .before .before .before .before .before .put2 .kept .0,
-  c .before
-      .before .before .before .before .before .before .before .before .before .before .put .ensures .to,
-  c .before .before .before .before
-      .before .before .before .before .before .before .before .put .kept .0,
-)
+put-requires-4 c κs =
+    omega (
+      arith,
+      c .before .before .before .before .before .before .before .before .before .before .before .before .before .before .pre,
+      c .before
+          .before .before .put3 .ensures .to,
+      c .before .before .before .put3 .kept .0,
+      c .before .before .before .before .before .before .before .put2
+          .ensures .to,
+      c .before .before .before .before .before .before .before .put2 .kept .0,
+      c .before .before .before .before .before .before .before
+          .before .before .before .before .put .ensures .to,
+      c .before .before .before .before .before .before .before .before .before .before .before .put
+          .kept .0,
+    )
 
 put-requires-5 : tie.Need-put-requires-5
-put-requires-5 c κs = omega (
-  arith,
-  c .before .before .before .before .before .before .before .before .before .before .before .before
-      .before .before .before .before .before .before .pre,
-  c .before .before .before .put4 .ensures .to,
-  c .before .before .before .put4
-      .kept .0,
-  c .before .before .before .before .before .before .before .put3 .ensures .to,
-  c .before .before .before .before .before
-      .before .before .put3 .kept .0,
-  c .before .before .before .before .before .before .before .before .before .before .before .put2 .ensures
-      .to,
-  c .before .before .before .before .before .before .before .before .before .before .before .put2 .kept .0,
-  c .before .before .before
-      .before .before .before .before .before .before .before .before .before .before .before .before .put .ensures .to,
-  c .before .before
-      .before .before .before .before .before .before .before .before .before .before .before .before .before .put .kept .0,
-)
+put-requires-5 c κs =
+    omega (
+      arith,
+      c .before .before .before .before .before .before .before .before .before .before .before .before .before .before .before .before
+          .before .before .pre,
+      c .before .before .before .put4 .ensures .to,
+      c .before .before .before .put4 .kept .0,
+      c .before .before .before .before
+          .before .before .before .put3 .ensures .to,
+      c .before .before .before .before .before .before .before .put3 .kept .0,
+      c .before .before .before
+          .before .before .before .before .before .before .before .before .put2 .ensures .to,
+      c .before .before .before .before .before .before .before
+          .before .before .before .before .put2 .kept .0,
+      c .before .before .before .before .before .before .before .before .before .before .before .before
+          .before .before .before .put .ensures .to,
+      c .before .before .before .before .before .before .before .before .before .before .before .before
+          .before .before .before .put .kept .0,
+    )
 
 put-requires-6 : tie.Need-put-requires-6
-put-requires-6 c κs = omega (
-  arith,
-  c .before .before .before .before .before .before .before .before .before .before .before .before
-      .before .before .before .before .before .before .before .before .before .before .pre,
-  c .before .before .before .put5 .ensures .to,
-  c
-      .before .before .before .put5 .kept .0,
-  c .before .before .before .before .before .before .before .put4 .ensures .to,
-  c .before .before
-      .before .before .before .before .before .put4 .kept .0,
-  c .before .before .before .before .before .before .before .before .before
-      .before .before .put3 .ensures .to,
-  c .before .before .before .before .before .before .before .before .before .before .before .put3
-      .kept .0,
-  c .before .before .before .before .before .before .before .before .before .before .before .before .before .before .before
-      .put2 .ensures .to,
-  c .before .before .before .before .before .before .before .before .before .before .before .before .before .before
-      .before .put2 .kept .0,
-  c .before .before .before .before .before .before .before .before .before .before .before .before .before
-      .before .before .before .before .before .before .put .ensures .to,
-  c .before .before .before .before .before .before .before .before
-      .before .before .before .before .before .before .before .before .before .before .before .put .kept .0,
-)
+put-requires-6 c κs =
+    omega (
+      arith,
+      c .before .before .before .before .before .before .before .before .before .before .before .before .before .before .before .before
+          .before .before .before .before .before .before .pre,
+      c .before .before .before .put5 .ensures .to,
+      c .before .before .before .put5 .kept .0,
+      c
+          .before .before .before .before .before .before .before .put4 .ensures .to,
+      c .before .before .before .before .before .before .before .put4 .kept
+          .0,
+      c .before .before .before .before .before .before .before .before .before .before .before .put3 .ensures .to,
+      c .before .before .before
+          .before .before .before .before .before .before .before .before .put3 .kept .0,
+      c .before .before .before .before .before .before .before .before
+          .before .before .before .before .before .before .before .put2 .ensures .to,
+      c .before .before .before .before .before .before .before .before
+          .before .before .before .before .before .before .before .put2 .kept .0,
+      c .before .before .before .before .before .before .before .before .before
+          .before .before .before .before .before .before .before .before .before .before .put .ensures .to,
+      c .before .before .before .before .before
+          .before .before .before .before .before .before .before .before .before .before .before .before .before .before .put .kept .0,
+    )
 
 put-requires-7 : tie.Need-put-requires-7
-put-requires-7 c κs = omega (
-  arith,
-  c .before .before .before .before .before .before .before .before .before .before .before .before
-      .before .before .before .before .before .before .before .before .before .before .before .before .before .before .pre,
-  c .before .before
-      .before .put6 .ensures .to,
-  c .before .before .before .put6 .kept .0,
-  c .before .before .before .before .before .before .before .put5
-      .ensures .to,
-  c .before .before .before .before .before .before .before .put5 .kept .0,
-  c .before .before .before .before .before
-      .before .before .before .before .before .before .put4 .ensures .to,
-  c .before .before .before .before .before .before .before .before
-      .before .before .before .put4 .kept .0,
-  c .before .before .before .before .before .before .before .before .before .before .before
-      .before .before .before .before .put3 .ensures .to,
-  c .before .before .before .before .before .before .before .before .before .before
-      .before .before .before .before .before .put3 .kept .0,
-  c .before .before .before .before .before .before .before .before .before
-      .before .before .before .before .before .before .before .before .before .before .put2 .ensures .to,
-  c .before .before .before .before
-      .before .before .before .before .before .before .before .before .before .before .before .before .before .before .before .put2 .kept .0,
-  c .before .before .before .before .before .before .before .before .before .before .before .before .before .before .before .before
-      .before .before .before .before .before .before .before .put .ensures .to,
-  c .before .before .before .before .before .before .before
-      .before .before .before .before .before .before .before .before .before .before .before .before .before .before .before .before .put
-      .kept .0,
-)
+put-requires-7 c κs =
+    omega (
+      arith,
+      c .before .before .before .before .before .before .before .before .before .before .before .before .before .before .before .before
+          .before .before .before .before .before .before .before .before .before .before .pre,
+      c .before .before .before .put6 .ensures .to,
+      c .before
+          .before .before .put6 .kept .0,
+      c .before .before .before .before .before .before .before .put5 .ensures .to,
+      c .before .before .before .before
+          .before .before .before .put5 .kept .0,
+      c .before .before .before .before .before .before .before .before .before .before .before .put4 .ensures
+          .to,
+      c .before .before .before .before .before .before .before .before .before .before .before .put4 .kept .0,
+      c .before .before .before .before
+          .before .before .before .before .before .before .before .before .before .before .before .put3 .ensures .to,
+      c .before .before .before .before
+          .before .before .before .before .before .before .before .before .before .before .before .put3 .kept .0,
+      c .before .before .before .before .before
+          .before .before .before .before .before .before .before .before .before .before .before .before .before .before .put2 .ensures .to,
+      c .before
+          .before .before .before .before .before .before .before .before .before .before .before .before .before .before .before .before .before .before
+          .put2 .kept .0,
+      c .before .before .before .before .before .before .before .before .before .before .before .before .before .before .before .before
+          .before .before .before .before .before .before .before .put .ensures .to,
+      c .before .before .before .before .before .before .before .before
+          .before .before .before .before .before .before .before .before .before .before .before .before .before .before .before .put .kept .0,
+    )
 
 same-length : tie.Need-same-length
-same-length c = c .before .before .put7 .kept .0 ∙ c .before .before .before .before .before .before .put6 .kept .0
-    ∙ c .before .before .before .before .before .before .before .before .before .before .put5 .kept .0 ∙ c .before .before .before .before
-    .before .before .before .before .before .before .before .before .before .before .put4 .kept .0 ∙ c .before .before .before .before
-    .before .before .before .before .before .before .before .before .before .before .before .before .before .before .put3 .kept .0
-    ∙ c .before .before .before .before .before .before .before .before .before .before .before .before .before .before .before .before
-    .before .before .before .before .before .before .put2 .kept .0 ∙ c .before .before .before .before .before .before .before .before
-    .before .before .before .before .before .before .before .before .before .before .before .before .before .before .before .before .before
-    .before .put .kept .0
+same-length c =
+    let b = c .before .before .before .before .before .before in
+    c .before .before .put7 .kept .0 ∙ b .put6 .kept .0 ∙ b .before .before .before .before .put5 .kept .0 ∙ b .before .before .before .before .before
+    .before .before .before .put4 .kept .0 ∙ b .before .before .before .before .before .before .before .before .before .before .before .before .put3
+    .kept .0 ∙ b .before .before .before .before .before .before .before .before .before .before .before .before .before .before .before .before .put2
+    .kept .0 ∙ b .before .before .before .before .before .before .before .before .before .before .before .before .before .before .before .before
+    .before .before .before .before .put .kept .0
 
 returns : tie.Need-returns
 unfolding recordLine
 returns c =
-    let a = c .before .before .before .before .before .before .before .before .before .before .before .before .before .before .before
-    .before .before .before .before .before .before .before .before .before .before .before .before .before .before .args in
-    let v1 = c .before .before .before .before .before .before .before .before .before .before .before .before .before .before .before
-    .before .before .before .before .before .before .before .before .before .before .before .put in
-    let v2 = c .before .before .before .before .before .before .before .before .before .before .before .before .before .before .before .before .before .before .before .before .before .before .put2 in
-    let v3 = c .before .before .before .before .before .before .before .before .before .before .before .before .before .before .before .before .before .before .put3 in
-    let v4 = c .before .before .before .before .before .before .before .before .before .before .before .before .before .before .put4 in
-    let v5 = c .before .before .before .before .before .before .before .before .before .before .put5 in
-    let v6 = c .before .before .before .before .before .before .put6 in
+    let b = c .before .before .before .before .before .before in
+    let a = b .before .before .before .before .before .before .before .before .before .before .before .before .before .before .before .before .before
+    .before .before .before .before .before .before .args in
+    let v1 = b .before .before .before .before .before .before .before .before .before .before .before .before .before .before .before .before .before
+    .before .before .before .put in
+    let v2 = b .before .before .before .before .before .before .before .before .before .before .before .before .before .before .before .before .put2
+    in
+    let v3 = b .before .before .before .before .before .before .before .before .before .before .before .before .put3 in
+    let v4 = b .before .before .before .before .before .before .before .before .put4 in
+    let v5 = b .before .before .before .before .put5 in
+    let v6 = b .put6 in
     let v7 = c .before .before .put7 in
     let w2 = written-more (now (a .out)) (v1 .last .0) (v2 .last .0) (a .at) (v1 .result) (v2 .result) 21 21 _ _ (v1 .ensures) (v2 .ensures) in
     let w3 = written-more (now (a .out)) (v2 .last .0) (v3 .last .0) (a .at) (v2 .result) (v3 .result) 42 21 _ _ w2 (v3 .ensures) in

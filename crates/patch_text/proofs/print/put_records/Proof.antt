@@ -19,7 +19,9 @@ abbrev μ-loop : tie.MeasureT-loop
 μ-loop out₀ at patches n end₀ j₀ out end j = n - j
 
 loop-holds : tie.Need-loop-holds Inv-loop μ-loop
-loop-holds c = (written-none (now (c .before .before .args .out)) (c .before .before .args .at) (patchAt (now (c .before .before .args .patches))), omega arith, refl)
+loop-holds c =
+    let a = c .before .before .args in
+    (written-none (now (a .out)) (a .at) (patchAt (now (a .patches))), omega arith, refl)
 
 blob-at-requires : tie.Need-blob-at-requires Inv-loop μ-loop
 blob-at-requires c κs = omega (arith, c .loop-test .taken, c .before .before .before .before .pre .1)

@@ -25,7 +25,9 @@ mul-n c =
     omega (arith, mul-le-mul (g .1) (g .2))
 
 loop-holds : tie.Need-loop-holds Inv-loop μ-loop
-loop-holds c = (filled-begin (pixelAt (now (c .before .before .args .text)) (c .before .before .args .w)) (now (c .before .before .args .mask)), omega arith, refl)
+loop-holds c =
+    let a = c .before .before .args in
+    (filled-begin (pixelAt (now (a .text)) (a .w)) (now (a .mask)), omega arith, refl)
 
 div-at : tie.Need-div-at Inv-loop μ-loop
 div-at c = c .before .before .before .before .pre .0

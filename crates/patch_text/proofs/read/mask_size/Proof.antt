@@ -65,20 +65,24 @@ none-requires-5 : tie.Need-none-requires-5
 none-requires-5 c κs = search needs
 
 returns-5 : tie.Need-returns-5
-returns-5 c = measured-none _ _ (c .none5 .ensures .0) (unlettered (now (c .before .before .before .before .before .before .before .before
-    .before .before .args .text)) (c .before .before .before .before .before .before .before .before .line-length .result)
-    (c .before .before .before .before .before .before .before .before .line-length .ensures) (c .before .before .before .before .before
-    .closed-length .result) (c .before .before .before .before .before .closed-length .ensures) (sym (c .before .before .lettered .ensures)
-    ∙ not-true _ (c .before .if5 .taken)))
+returns-5 c =
+    let b = c .before .before .before .before .before .before .before .before in
+    measured-none _ _ (c .none5 .ensures .0) (unlettered (now (b .before .before .args .text)) (b .line-length .result) (b .line-length .ensures) (c
+    .before .before .before .before .before .closed-length .result) (c .before .before .before .before .before .closed-length .ensures) (sym (c
+    .before .before .lettered .ensures) ∙ not-true _ (c .before .if5 .taken)))
 
 returns-6 : tie.Need-returns-6
 returns-6 c =
-    let some : 1 ≤ c .before .before .before .before .before .before .before .line-length .result = omega (arith, c .before .before .before .before .before .before .if1 .left) in
-    measured-reads _ _ some (lettered-mask (now (c .before .before .before .before .before .before .before .before .before .args .text))
-    (c .before .before .before .before .before .before .before .line-length .result) (c .before .before .before .before .before .before
-    .before .line-length .ensures) (c .before .before .before .before .closed-length .result) (c .before .before .before .before
-    .closed-length .ensures) some (c .before .before .before .before .before .if2 .left) (c .before .before .before .if3 .left)
-    (c .before .before .if4 .left) (sym (c .before .lettered .ensures) ∙ not-false _ (c .if5 .left)))
+    let some : 1 ≤ c .before .before .before .before .before .before .before .line-length .result = omega (
+      arith,
+      c .before .before .before .before
+          .before .before .if1 .left,
+    ) in
+    measured-reads _ _ some (lettered-mask (now (c .before .before .before .before .before .before .before .before .before .args .text)) (c .before
+    .before .before .before .before .before .before .line-length .result) (c .before .before .before .before .before .before .before .line-length
+    .ensures) (c .before .before .before .before .closed-length .result) (c .before .before .before .before .closed-length .ensures) some (c .before
+    .before .before .before .before .if2 .left) (c .before .before .before .if3 .left) (c .before .before .if4 .left) (sym (c .before .lettered
+    .ensures) ∙ not-false _ (c .if5 .left)))
 
 pub mask-size-spec : {M : Type 1} → statement M
 mask-size-spec =

@@ -9,11 +9,15 @@ use Rattle.patch_text.proofs.read.pixel.Tie as tie
 
 returns : tie.Need-returns
 unfolding pixelOf
-returns c = pick-yes (eqb (c .before .args .byte) hash) 1 0 (eq-eqb (c .before .args .byte) hash (c .if1 .taken))
+returns c =
+    let a = c .before .args in
+    pick-yes (eqb (a .byte) hash) 1 0 (eq-eqb (a .byte) hash (c .if1 .taken))
 
 returns-2 : tie.Need-returns-2
 unfolding pixelOf
-returns-2 c = pick-no (eqb (c .before .args .byte) hash) 1 0 (ne-eqb (c .before .args .byte) hash (c .if1 .left))
+returns-2 c =
+    let a = c .before .args in
+    pick-no (eqb (a .byte) hash) 1 0 (ne-eqb (a .byte) hash (c .if1 .left))
 
 pub pixel-spec : {M : Type 1} → statement M
 pixel-spec = tie.close (tie.spec returns returns-2)

@@ -4,8 +4,8 @@ use Prim.Native.Nat.{min, ℕ, _<_, _+_, _-_}
 use native.Mathlib.Omega.{arith}
 use mathlib.Core.Path.{_≡_, sym, ap, _∙_}
 use borrow.Author.Needs.{needs}
-use Rattle.float.specs.Floats.{_⊖_, f64, d64, asUsize, clampOf}
-use Rattle.sampling.specs.Reading.{held, floorOf, neighboursOf}
+use Rattle.float.specs.Floats.{_⊖_, f64, d64, floorOf, asUsize, clampOf}
+use Rattle.sampling.specs.Reading.{held, neighboursOf}
 use Rattle.sampling.specs.declared.Neighbours.{Neighbours}
 use Rattle.sampling.proofs.Whole.{first-is, whole-in}
 use Rattle.sampling.proofs.internal.neighbours.Statement.{statement}

@@ -1,7 +1,7 @@
 -- `search::internal::search` meets its contract. Assumes nothing.
 use mathlib.Core.Bool.{false}
 use Rattle.search.specs.declared.Search.{Search}
-use Rattle.search.proofs.Cases.{not-true, not-false}
+use borrow.Author.Tests.{not-true, not-false}
 use Rattle.frame.specs.Image.{image}
 use Rattle.search.proofs.Turning.{Reached, Held, left, begins, held-beginning, turn-reached, turn-left, turn-held, turn-counting, ended-searched}
 use borrow.Author.Needs.{needs}
@@ -27,14 +27,11 @@ loop-holds c =
 
 turn-requires : tie.Need-turn-requires Inv-loop μ-loop
 turn-requires c κs =
-    let a = c .before .before .before .before .before .before .before .args in
+    let b = c .before .before .before .before .before .before .before in
+    let a = b .args in
     let l = c .before .before .before .loop in
-    let e : l .s .ended ≡ false = not-true _ (c .before .if1 .taken) in (
-      c .before .before .before .before .before .before .before .pre .0,
-      c .before .before .before .before .before .before .before .pre .1,
-      turn-counting _ _ _ (l .s) (l .inv .0) e (l .inv .1),
-      l .inv .2 ∙ c .before .before .before .before .before .before .before .pre .2,
-    )
+    let e : l .s .ended ≡ false = not-true _ (c .before .if1 .taken) in
+    (b .pre .0, b .pre .1, turn-counting _ _ _ (l .s) (l .inv .0) e (l .inv .1), l .inv .2 ∙ b .pre .2)
 
 loop-less : tie.Need-loop-less Inv-loop μ-loop
 loop-less c =

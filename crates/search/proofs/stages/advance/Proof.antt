@@ -1,9 +1,10 @@
 -- `search::stages::advance` meets its contract. Assumes nothing.
 use borrow.Author.Tests.{le-ltb}
 use mathlib.Core.Bool.{true, false}
+use Rattle.base.proofs.Tests.{not-first, not-second}
 use Rattle.search.specs.Stages.{keeps}
 use Rattle.search.specs.declared.Stage.{Stage}
-use Rattle.search.proofs.Cases.{advanced-entry, advanced-stage, advanced-over, not-first, not-second}
+use Rattle.search.proofs.Cases.{advanced-entry, advanced-stage, advanced-over}
 use native.Mathlib.Omega.{arith}
 use Prim.Native.Nat.{_+_}
 use mathlib.Core.Path.{_≡_, sym, ap, _∙_}
@@ -40,8 +41,10 @@ returns-2 c =
     ∙ advanced-stage _ _ (omega (arith, c .before .before .before .before .before .before .before .entries .ensures)) k (omega arith)
 
 returns-3 : tie.Need-returns-3
-returns-3 c = advanced-over _ _ (omega (arith, c .before .before .before .before .entries .ensures)) (not-second (keeps (c .before .before
-    .before .before .before .args .t .kept)) (le-ltb (c .before .before .before .before .before .args .s .number) 2 (omega arith)))
+returns-3 c =
+    let a = c .before .before .before .before .before .args in
+    advanced-over _ _ (omega (arith, c .before .before .before .before .entries .ensures)) (not-second (keeps (a .t .kept)) (le-ltb (a .s .number) 2
+    (omega arith)))
 
 returns-4 : tie.Need-returns-4
 returns-4 c = advanced-over _ _ (omega (arith, c .before .before .before .entries .ensures)) (not-first _ (sym (c .before .keeps .ensures) ∙ c .if2 .left))

@@ -10,7 +10,9 @@ no-fit-requires : tie.Need-no-fit-requires
 no-fit-requires c κs = search needs
 
 returns : tie.Need-returns
-returns c = ap (λ (z : GeometryFit). record { kept = NoHomography; fit = z; tried = c .before .args .tried; homographies = c .before .args .homographies }) (c .no-fit .ensures)
+returns c =
+    let a = c .before .args in
+    ap (λ (z : GeometryFit). record { kept = NoHomography; fit = z; tried = a .tried; homographies = a .homographies }) (c .no-fit .ensures)
 
 pub begun-spec : {M : Type 1} → statement M
 begun-spec = tie.close (tie.spec no-fit-requires returns)

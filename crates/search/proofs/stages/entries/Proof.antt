@@ -1,6 +1,6 @@
 -- `search::stages::entries` meets its contract. Assumes nothing.
 use Rattle.search.proofs.Entries.{stage-lengths, later-length}
-use Rattle.fit.proofs.Cases.{from-two}
+use Rattle.base.proofs.Arith.{from-two}
 use Rattle.search.specs.Stages.{entries}
 use mathlib.Core.Path.{sym, ap, _∙_}
 use Rattle.search.proofs.stages.entries.Statement.{statement}

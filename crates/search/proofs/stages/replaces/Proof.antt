@@ -24,7 +24,8 @@ returns c = replaces-none _ (c .enum-told .given .1)
 
 returns-2 : tie.Need-returns-2
 returns-2 c =
-    let e : lt (c .before .score-of .result) (c .score-of2 .result) ≡ lt (scoreOf (c .before .before .before .kept .given .0 .0)) (scoreOf (c .before .before .before .before .before .args .g)) = cc in
+    let e : lt (c .before .score-of .result) (c .score-of2 .result) ≡
+    lt (scoreOf (c .before .before .before .kept .given .0 .0)) (scoreOf (c .before .before .before .before .before .args .g)) = cc in
     e ∙ replaces-more _ _ (c .before .before .before .kept .given .1)
 
 pub replaces-spec : {M : Type 1} → statement M

@@ -64,20 +64,17 @@ same-length c = search needs
 returns-3 : tie.Need-returns-3
 unfolding fitTests fitForTests fittedBy
 returns-3 c =
-    let a = c .before .before .before .before .before .before .before .before .before .before .before .before .before .args in
+    let b = c .before .before .before .before .before .before in
+    let a = b .before .before .before .before .before .before .before .args in
     let f = frame (a .width) (a .height) (a .cell) (a .margin) in
-    let e = c .before .before .before .before .before .before .before .fit-for .ensures
-    ∙ ap (λ q. fittedBy (fitForTests (a .w) (a .h) f q (a .k)) (fitFor (a .w) (a .h) f q (a .k))) (c .before .before .before .before
-    .before .before .before .before .quad .ensures) in
-    let z : lowestOf (fitForTests (a .w) (a .h) f (quadOf (a .points .now)) (a .k)) ≡ 0 = sym (c .before .before .before .before .before
-    .before .number-of .ensures ∙ ap (λ (t : Fitted). numberOf (t .verdict)) e ∙ fitted-number _ _) ∙ c .before .before .before .before
-    .before .if2 .left in
-    accepted _ _ _
-    (lowest-without 3 _ (check 5 (noLayout f) ∷ check 10 (not (fitsFor (a .w) (a .h) f (quadOf (a .points .now)) (a .k)))
-    ∷ []) (check 1 (frameOutside f) ∷ check 2 (sidesWrong (a .w) (a .h)) ∷ []) (sym (c .before .before .before .before .before .before
-    .before .before .before .before .short .ensures .0) ∙ c .before .before .before .before .before .before .before .before .before .if1
-    .left) ∙ z)
-    (c .before .before .store-fit .ensures ∙ ap (λ t. written (fitNumbers t) (a .fit .now)) (ap (λ (t : Fitted). t .fit) e ∙ fitted-fit _ _ z))
+    let e = b .before .fit-for .ensures ∙ ap (λ q. fittedBy (fitForTests (a .w) (a .h) f q (a .k)) (fitFor (a .w) (a .h) f q (a .k))) (b .before
+    .before .quad .ensures) in
+    let z : lowestOf (fitForTests (a .w) (a .h) f (quadOf (a .points .now)) (a .k)) ≡ 0 = sym (b .number-of .ensures ∙ ap (λ (t : Fitted). numberOf (t
+    .verdict)) e ∙ fitted-number _ _) ∙ c .before .before .before .before .before .if2 .left in
+    accepted _ _ _ (lowest-without 3 _ (check 5 (noLayout f) ∷ check 10 (not (fitsFor (a .w) (a .h) f (quadOf (a .points .now)) (a .k))) ∷ []) (check
+    1 (frameOutside f) ∷ check 2 (sidesWrong (a .w) (a .h)) ∷ []) (sym (b .before .before .before .before .short .ensures .0) ∙ b .before .before
+    .before .if1 .left) ∙ z) (c .before .before .store-fit .ensures ∙ ap (λ t. written (fitNumbers t) (a .fit .now)) (ap (λ (t : Fitted). t .fit) e ∙
+    fitted-fit _ _ z))
 
 pub tablet-fit-for-spec : {M : Type 1} → statement M
 tablet-fit-for-spec =

@@ -43,8 +43,9 @@ slice-aggregate-store-counts : tie.Need-slice-aggregate-store-counts
 slice-aggregate-store-counts c = search needs
 
 store-counts-requires : tie.Need-store-counts-requires
-store-counts-requires c κs = (c .before .before .before .before .before .before .before .before .before .before .before .before .before
-    .short3 .ensures .1 (c .before .before .before .before .before .before .before .before .before .before .before .before .if1 .left)) .1
+store-counts-requires c κs =
+    let b = c .before .before .before .before .before .before .before .before .before .before .before .before in
+    (b .before .short3 .ensures .1 (b .if1 .left)) .1
 
 score-of-requires : tie.Need-score-of-requires
 score-of-requires c κs = search needs
@@ -53,9 +54,10 @@ slice-aggregate-store : tie.Need-slice-aggregate-store
 slice-aggregate-store c = search needs
 
 store-requires : tie.Need-store-requires
-store-requires c κs = (c .before .before .before .before .before .before .before .before .before .before .before .before .before .before
-    .before .before .before .before .before .short3 .ensures .1 (c .before .before .before .before .before .before .before .before .before
-    .before .before .before .before .before .before .before .before .before .if1 .left)) .2
+store-requires c κs =
+    let b = c .before .before .before .before .before .before .before .before .before .before .before .before .before .before .before .before .before
+    .before in
+    (b .before .short3 .ensures .1 (b .if1 .left)) .2
 
 same-length : tie.Need-same-length
 same-length c = search needs
@@ -63,12 +65,13 @@ same-length c = search needs
 returns-2 : tie.Need-returns-2
 unfolding scoreNumber
 returns-2 c =
+    let b = c .before .before .before .before .before .before .before in
     let s = c .before .before .before .before .before .grid-score .ensures in
     let e = c .before .a .given .1 in
     let p = refused-positive _ _ _ (sym e ∙ s .given) in
-    over-done (sym (c .before .before .before .before .before .before .before .before .before .short3 .ensures .0) ∙ c .before .before .before .before .before .before .before .before .if1 .left)
-    (record {
-      scoring = scoring _ _ _ _ _ _ _ _ (c .before .before .before .before .before .before .before .fit .ensures) (sym (ap scoreNumber e)) s;
+    over-done (sym (b .before .before .short3 .ensures .0) ∙ b .before .if1 .left) (record {
+      scoring = scoring _ _ _ _ _ _ _ _ (b .fit .ensures) (sym
+          (ap scoreNumber e)) s;
       grade-is = answered-refused _ _ p;
       score-is = answered-refused _ _ p;
     })
@@ -85,29 +88,25 @@ same-length-4 c = search needs
 returns-3 : tie.Need-returns-3
 unfolding scoreNumber answered gradeNumbers
 returns-3 c =
-    let a = c .before .before .before .before .before .before .before .before .before .before .before .before .before .before .before
-    .before .before .before .before .before .before .before .before .before .before .before .before .before .args in
+    let b = c .before .before .before .before .before .before .before .before in
+    let a = b .before .before .before .before .before .before .before .before .before .before .before .before .before .before .before .before .before
+    .before .before .before .args in
     let f = frame (a .width) (a .height) (a .cell) (a .margin) in
     let img = image (a .w) (a .h) (a .capture .now) in
-    let s = c .before .before .before .before .before .before .before .before .before .before .before .before .before .before .before .before .before .before .grid-score .ensures in
-    let e = c .before .before .before .before .before .before .before .before .before .before .before .before .before .before .a2 .given .1 in
-    let g = scored-grade _ _ _ (sym e ∙ s .given) ∙ ap (gradeOf img f) (c .before .before .before .before .before .before .before .before
-    .before .before .before .before .before .before .before .before .before .before .before .before .fit .ensures) in
-    over-done (sym (c .before .before .before .before .before .before .before .before .before .before .before .before .before .before
-    .before .before .before .before .before .before .before .before .short3 .ensures .0) ∙ c .before .before .before .before .before
-    .before .before .before .before .before .before .before .before .before .before .before .before .before .before .before .before .if1
-    .left)
-    (record {
-      scoring = scoring _ _ _ _ _ _ _ _ (c .before .before .before .before .before .before .before .before .before .before .before .before
-          .before .before .before .before .before .before .before .before .fit .ensures) (sym (ap scoreNumber e)) s;
-      grade-is =
-          c .before .before .before .before .before .before .before .before .store-counts .ensures
-          ∙ ap (λ n. written (n ∷ c .before .before .before .before .before .before .before .before .before .before .outside-cell .result
-          ∷ []) (a .grade .now)) (c .before .before .before .before .before .before .before .before .before .before .before
-          .grade-number .ensures ∙ ap gradeNumber g)
-          ∙ ap (λ n. written (gradeNumber (gradeOf img f (fitOf (a .fit .now))) ∷ n ∷ []) (a .grade .now)) (c .before .before .before
-          .before .before .before .before .before .before .before .outside-cell .ensures ∙ ap outsideCell g);
-      score-is = c .before .before .store .ensures ∙ ap (λ x. written (x ∷ []) (a .score .now)) (c .before .before .before .before .score-of .ensures ∙ ap scoreOf g);
+    let s = b .before .before .before .before .before .before .before .before .before .before .grid-score .ensures in
+    let e = b .before .before .before .before .before .before .a2 .given .1 in
+    let g = scored-grade _ _ _ (sym e ∙ s .given) ∙ ap (gradeOf img f) (b .before .before .before .before .before .before .before .before .before
+    .before .before .before .fit .ensures) in
+    over-done (sym (b .before .before .before .before .before .before .before .before .before .before .before .before .before .before .short3 .ensures
+    .0) ∙ b .before .before .before .before .before .before .before .before .before .before .before .before .before .if1 .left) (record {
+      scoring =
+          scoring _ _ _ _ _ _ _ _ (b .before .before .before .before .before .before .before .before .before .before .before .before .fit .ensures) (sym (ap
+          scoreNumber e)) s;
+      grade-is = b .store-counts .ensures ∙ ap (λ n. written (n ∷ b .before .before .outside-cell .result ∷ []) (a .grade .now)) (b
+          .before .before .before .grade-number .ensures ∙ ap gradeNumber g) ∙ ap (λ n. written (gradeNumber (gradeOf img f (fitOf (a .fit .now))) ∷ n ∷ [])
+          (a .grade .now)) (b .before .before .outside-cell .ensures ∙ ap outsideCell g);
+      score-is = c .before .before .store .ensures ∙ ap (λ x. written (x
+          ∷ []) (a .score .now)) (c .before .before .before .before .score-of .ensures ∙ ap scoreOf g);
     })
 
 pub tablet-grid-score-spec : {M : Type 1} → statement M

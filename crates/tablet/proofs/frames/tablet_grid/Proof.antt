@@ -55,19 +55,18 @@ same-length c = search needs
 returns-3 : tie.Need-returns-3
 unfolding cellsTests numberFor
 returns-3 c =
-    let a = c .before .before .before .before .before .before .before .before .before .before .before .before .before .args in
+    let b = c .before .before .before .before .before .before .before in
+    let a = b .before .before .before .before .before .before .args in
     let f = frame (a .width) (a .height) (a .cell) (a .margin) in
-    let z : lowestOf (frameTests f) ≡ 0 = sym (c .before .before .before .before .before .before .before .before .before .before
-    .count-number .ensures ∙ ap numberRefusal (c .before .before .before .before .before .before .before .before .before .before .before
-    .cols .ensures) ∙ number-number _ _) ∙ c .before .before .before .before .before .before .before .before .before .if1 .left in
-    let x : c .before .before .before .before .before .count-value .result ≡ spec.cols f = c .before .before .before .before .before
-    .count-value .ensures ∙ ap numberValue (c .before .before .before .before .before .before .before .before .before .before .before
-    .cols .ensures) ∙ number-value _ _ z in
-    let y : c .before .before .before .before .count-value2 .result ≡ spec.rows f = c .before .before .before .before .count-value2 .ensures
-    ∙ ap numberValue (c .before .before .before .before .before .before .before .rows .ensures) ∙ number-value _ _ z in
-    accepted _ _ _ (lowest-past _ 0 _ (frame-rising f) z ∙ lowest-next 3 _ _ (le-ltb _ _ (c .before .before .before .before .before .before .before .before .if2 .left)) ∙ lowest-none)
-    (c .before .before .store-counts .ensures ∙ ap (λ n. written (n ∷ c .before .before .before .before .count-value2 .result
-    ∷ []) (a .numbers .now)) x ∙ ap (λ n. written (spec.cols f ∷ n ∷ []) (a .numbers .now)) y)
+    let z : lowestOf (frameTests f) ≡ 0 = sym (b .before .before .before .count-number .ensures ∙ ap numberRefusal (b .before .before .before .before
+    .cols .ensures) ∙ number-number _ _) ∙ b .before .before .if1 .left in
+    let x : c .before .before .before .before .before .count-value .result ≡ spec.cols f = c .before .before .before .before .before .count-value
+    .ensures ∙ ap numberValue (b .before .before .before .before .cols .ensures) ∙ number-value _ _ z in
+    let y : c .before .before .before .before .count-value2 .result ≡ spec.rows f = c .before .before .before .before .count-value2 .ensures ∙ ap
+    numberValue (b .rows .ensures) ∙ number-value _ _ z in
+    accepted _ _ _ (lowest-past _ 0 _ (frame-rising f) z ∙ lowest-next 3 _ _ (le-ltb _ _ (b .before .if2 .left)) ∙ lowest-none) (c .before .before
+    .store-counts .ensures ∙ ap (λ n. written (n ∷ c .before .before .before .before .count-value2 .result ∷ []) (a .numbers .now)) x ∙ ap (λ n.
+    written (spec.cols f ∷ n ∷ []) (a .numbers .now)) y)
 
 pub tablet-grid-spec : {M : Type 1} → statement M
 tablet-grid-spec =

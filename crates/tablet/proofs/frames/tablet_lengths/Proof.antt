@@ -78,19 +78,14 @@ same-length c = search needs
 returns-4 : tie.Need-returns-4
 unfolding lengthTests lengthNumbers areaLengths
 returns-4 c =
-    let a = c .before .before .before .before .before .before .before .before .before .before .before .before .before .args in
-    accepted _ _ _
-    (lowest-next 1 _ _ (sym (c .before .before .before .before .before .before .before .before .before .before .before .frame-outside
-    .ensures) ∙ c .before .before .before .before .before .before .before .before .before .before .if1 .left)
-    ∙ lowest-next 2 _ _ (sym (c .before .before .before .before .before .before .before .before .before .sides-wrong .ensures)
-    ∙ c .before .before .before .before .before .before .before .before .if2 .left)
-    ∙ lowest-next 3 _ _ (le-ltb _ _ (c .before .before .before .before .before .before .before .if3 .left))
-    ∙ lowest-none)
-    (c .before .before .store-counts .ensures
-    ∙ ap (λ (s : Lengths). written (3 * a .w * a .h ∷ (areaLengths s ++ (c .before .before .before .before .before .sampled-cells .result
-    ∷ 3 * a .width * a .height ∷ []))) (a .lengths .now)) (c .before .before .before .before .before .before .smallest .ensures)
-    ∙ ap (λ n. written (3 * a .w * a .h ∷ (areaLengths (smallest (a .w) (a .h)) ++ (n ∷ 3 * a .width * a .height ∷ []))) (a .lengths .now))
-    (c .before .before .before .before .before .sampled-cells .ensures .0))
+    let b = c .before .before .before .before .before .before in
+    let a = b .before .before .before .before .before .before .before .args in
+    accepted _ _ _ (lowest-next 1 _ _ (sym (b .before .before .before .before .before .frame-outside .ensures) ∙ b .before .before .before .before
+    .if1 .left) ∙ lowest-next 2 _ _ (sym (b .before .before .before .sides-wrong .ensures) ∙ b .before .before .if2 .left) ∙ lowest-next 3 _ _ (le-ltb
+    _ _ (b .before .if3 .left)) ∙ lowest-none) (c .before .before .store-counts .ensures ∙ ap (λ (s : Lengths). written (3 * a .w * a .h ∷
+    (areaLengths s ++ (c .before .before .before .before .before .sampled-cells .result ∷ 3 * a .width * a .height ∷ []))) (a .lengths .now)) (b
+    .smallest .ensures) ∙ ap (λ n. written (3 * a .w * a .h ∷ (areaLengths (smallest (a .w) (a .h)) ++ (n ∷ 3 * a .width * a .height ∷ []))) (a
+    .lengths .now)) (c .before .before .before .before .before .sampled-cells .ensures .0))
 
 pub tablet-lengths-spec : {M : Type 1} → statement M
 tablet-lengths-spec =

@@ -53,16 +53,14 @@ same-length c = search needs
 returns-3 : tie.Need-returns-3
 unfolding centerTests layoutTests centersFor
 returns-3 c =
-    let a = c .before .before .before .before .before .before .before .before .before .before .args in
+    let b = c .before .before .before .before .before .before in
+    let a = b .before .before .before .before .args in
     let f = frame (a .width) (a .height) (a .cell) (a .margin) in
-    let z : lowestOf (layoutTests f) ≡ 0 = sym (c .before .before .before .before .before .before .centers-number .ensures
-    ∙ ap centersRefusal (c .before .before .before .before .before .before .before .marker-centers .ensures) ∙ centers-number _ _)
-    ∙ c .before .before .before .before .before .if2 .left in
-    let v = c .before .before .before .before .centers-value .ensures ∙ ap centersValue (c .before .before .before .before .before .before
-    .before .marker-centers .ensures) ∙ centers-value _ _ z in
-    accepted _ _ _ (lowest-without 3 _ (check 5 (noLayout f) ∷ []) (check 1 (frameOutside f) ∷ []) (le-ltb _ _ (c .before .before .before
-    .before .before .before .before .before .if1 .left)) ∙ z)
-    (c .before .before .store-quad .ensures ∙ ap (λ q. written (quadNumbers q) (a .points .now)) v)
+    let z : lowestOf (layoutTests f) ≡ 0 = sym (b .centers-number .ensures ∙ ap centersRefusal (b .before .marker-centers .ensures) ∙ centers-number _
+    _) ∙ c .before .before .before .before .before .if2 .left in
+    let v = c .before .before .before .before .centers-value .ensures ∙ ap centersValue (b .before .marker-centers .ensures) ∙ centers-value _ _ z in
+    accepted _ _ _ (lowest-without 3 _ (check 5 (noLayout f) ∷ []) (check 1 (frameOutside f) ∷ []) (le-ltb _ _ (b .before .before .if1 .left)) ∙ z) (c
+    .before .before .store-quad .ensures ∙ ap (λ q. written (quadNumbers q) (a .points .now)) v)
 
 pub tablet-marker-centers-spec : {M : Type 1} → statement M
 tablet-marker-centers-spec =

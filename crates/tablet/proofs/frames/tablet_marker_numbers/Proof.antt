@@ -61,24 +61,21 @@ same-length c = search needs
 returns-3 : tie.Need-returns-3
 unfolding markerTests numberFor
 returns-3 c =
-    let a = c .before .before .before .before .before .before .before .before .before .before .before .before .before .before .before .args in
+    let b = c .before .before .before .before .before .before in
+    let a = b .before .before .before .before .before .before .before .before .before .args in
     let k = a .cell in
-    let z : lowestOf (cellTests k) ≡ 0 = sym (c .before .before .before .before .before .before .before .before .before .before .before
-    .before .count-number .ensures ∙ ap numberRefusal (c .before .before .before .before .before .before .before .before .before .before
-    .before .before .before .marker-size .ensures) ∙ number-number _ _) ∙ c .before .before .before .before .before .before .before
-    .before .before .before .before .if1 .left in
-    let x = c .before .before .before .before .before .before .count-value .ensures ∙ ap numberValue (c .before .before .before .before
-    .before .before .before .before .before .before .before .before .before .marker-size .ensures) ∙ number-value _ _ z in
-    let y = c .before .before .before .before .before .count-value2 .ensures ∙ ap numberValue (c .before .before .before .before .before
-    .before .before .before .before .quiet-zone .ensures) ∙ number-value _ _ z in
-    let m = c .before .before .before .before .count-value3 .ensures ∙ ap numberValue (c .before .before .before .before .before .before
-    .before .before .margin-for .ensures) ∙ number-value _ _ z in
-    accepted _ _ _ (lowest-past _ 0 _ (cell-rising k) z ∙ lowest-next 3 _ _ (le-ltb _ _ (c .before .before .before .before .before .before
-    .before .before .before .before .if2 .left)) ∙ lowest-none)
-    (c .before .before .store-counts .ensures
-    ∙ ap (λ n. written (n ∷ c .before .before .before .before .before .count-value2 .result ∷ c .before .before .before .before .count-value3 .result ∷ []) (a .numbers .now)) x
-    ∙ ap (λ n. written (markerSize k ∷ n ∷ c .before .before .before .before .count-value3 .result ∷ []) (a .numbers .now)) y
-    ∙ ap (λ n. written (markerSize k ∷ quietZone k ∷ n ∷ []) (a .numbers .now)) m)
+    let z : lowestOf (cellTests k) ≡ 0 = sym (b .before .before .before .before .before .before .count-number .ensures ∙ ap numberRefusal (b .before
+    .before .before .before .before .before .before .marker-size .ensures) ∙ number-number _ _) ∙ b .before .before .before .before .before .if1 .left
+    in
+    let x = b .count-value .ensures ∙ ap numberValue (b .before .before .before .before .before .before .before .marker-size .ensures) ∙ number-value
+    _ _ z in
+    let y = c .before .before .before .before .before .count-value2 .ensures ∙ ap numberValue (b .before .before .before .quiet-zone .ensures) ∙
+    number-value _ _ z in
+    let m = c .before .before .before .before .count-value3 .ensures ∙ ap numberValue (b .before .before .margin-for .ensures) ∙ number-value _ _ z in
+    accepted _ _ _ (lowest-past _ 0 _ (cell-rising k) z ∙ lowest-next 3 _ _ (le-ltb _ _ (b .before .before .before .before .if2 .left)) ∙ lowest-none)
+    (c .before .before .store-counts .ensures ∙ ap (λ n. written (n ∷ c .before .before .before .before .before .count-value2 .result ∷ c .before
+    .before .before .before .count-value3 .result ∷ []) (a .numbers .now)) x ∙ ap (λ n. written (markerSize k ∷ n ∷ c .before .before .before .before
+    .count-value3 .result ∷ []) (a .numbers .now)) y ∙ ap (λ n. written (markerSize k ∷ quietZone k ∷ n ∷ []) (a .numbers .now)) m)
 
 pub tablet-marker-numbers-spec : {M : Type 1} → statement M
 tablet-marker-numbers-spec =

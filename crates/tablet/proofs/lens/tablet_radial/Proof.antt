@@ -43,14 +43,14 @@ same-length c = search needs
 returns-3 : tie.Need-returns-3
 unfolding lensTests newLens
 returns-3 c =
-    let a = c .before .before .before .before .before .before .before .before .before .before .args in
-    let z : lowestOf (sideTests (a .w) (a .h)) ≡ 0 = sym (c .before .before .before .before .before .before .before .lens-number .ensures
-    ∙ ap lensRefusal (c .before .before .before .before .before .before .before .before .new .ensures) ∙ lens-number _ _)
-    ∙ c .before .before .before .before .before .before .if1 .left in
-    let v = c .before .before .before .before .lens-value .ensures ∙ ap lensValue (c .before .before .before .before .before .before .before
-    .before .new .ensures ∙ ap (λ n. lensAs n (radial (a .w) (a .h) (a .k))) z) ∙ lens-value _ in
-    accepted _ _ _ (lowest-past _ 0 _ (side-rising (a .w) (a .h)) z ∙ lowest-next 3 _ _ (le-ltb _ _ (c .before .before .before .before .before .if2 .left)) ∙ lowest-none)
-    (c .before .before .store-lens .ensures ∙ ap (λ l. written (lensNumbers l) (a .lens .now)) v)
+    let b = c .before .before .before .before .before .before in
+    let a = b .before .before .before .before .args in
+    let z : lowestOf (sideTests (a .w) (a .h)) ≡ 0 = sym (b .before .lens-number .ensures ∙ ap lensRefusal (b .before .before .new .ensures) ∙
+    lens-number _ _) ∙ b .if1 .left in
+    let v = c .before .before .before .before .lens-value .ensures ∙ ap lensValue (b .before .before .new .ensures ∙ ap (λ n. lensAs n (radial (a .w)
+    (a .h) (a .k))) z) ∙ lens-value _ in
+    accepted _ _ _ (lowest-past _ 0 _ (side-rising (a .w) (a .h)) z ∙ lowest-next 3 _ _ (le-ltb _ _ (c .before .before .before .before .before .if2
+    .left)) ∙ lowest-none) (c .before .before .store-lens .ensures ∙ ap (λ l. written (lensNumbers l) (a .lens .now)) v)
 
 pub tablet-radial-spec : {M : Type 1} → statement M
 tablet-radial-spec =

@@ -29,13 +29,13 @@ same-length c = search needs
 
 returns-2 : tie.Need-returns-2
 unfolding listNumbers placeNumbers
-returns-2 c = (
-  c .before .before .before .before .before .before .before .before .before .number-of .ensures,
-  c .before .before .before
-      .store-counts .ensures ∙ told-all _ _ _ (sym (c .before .before .before .before .before .before .before .before .untouched .ensures)
-      ∙ c .before .before .before .before .before .before .before .if1 .left),
-  answered-refused _ _ (c .if2 .taken),
-)
+returns-2 c =
+    let b = c .before .before .before .before .before .before .before in (
+      b .before .before .number-of .ensures,
+      c .before .before .before .store-counts .ensures ∙ told-all _ _ _ (sym (b .before .untouched .ensures) ∙
+          b .if1 .left),
+      answered-refused _ _ (c .if2 .taken),
+    )
 
 store-quad-requires : tie.Need-store-quad-requires
 store-quad-requires c κs = search needs

@@ -19,10 +19,10 @@ detect-fiducials-requires : tie.Need-detect-fiducials-requires
 detect-fiducials-requires c κs = search needs
 
 answer-detected-requires : tie.Need-answer-detected-requires
-answer-detected-requires c κs = c .before .before .before .before .before .before .before .before .before .before .before .before .before
-    .before .before .before .before .before .before .before .before .before .before .before .before .before .before .before .short .ensures
-    .1 (c .before .before .before .before .before .before .before .before .before .before .before .before .before .before .before .before
-    .before .before .before .before .before .before .before .before .before .before .before .if1 .left)
+answer-detected-requires c κs =
+    let b = c .before .before .before .before .before .before .before .before .before .before .before .before .before .before .before .before .before
+    .before .before .before .before .before .before .before .before .before .before in
+    b .before .short .ensures .1 (b .if1 .left)
 
 same-length : tie.Need-same-length
 same-length c = c .before .before .before .before .before .before .before .before .before .before .before .before .before .before .before
@@ -64,22 +64,21 @@ same-length-10 c = c .before .before .before .before .answer-detected .kept .1 .
 
 returns-2 : tie.Need-returns-2
 returns-2 c =
-    let d = c .before .before .before .before .before .before .before .before .before .before .before .before .before .before .before
-    .before .before .before .before .before .before .before .before .detect-fiducials in
+    let b = c .before .before .before .before .before .before .before .before .before .before .before .before .before .before .before .before .before
+    .before .before .before .before .before .before in
+    let d = b .detect-fiducials in
     let n = c .before .before .before .before .answer-detected .ensures in
-    over-done (sym (c .before .before .before .before .before .before .before .before .before .before .before .before .before .before
-    .before .before .before .before .before .before .before .before .before .before .before .before .before .before .before .before
-    .before .before .before .short .ensures .0) ∙ c .before .before .before .before .before .before .before .before .before .before
-    .before .before .before .before .before .before .before .before .before .before .before .before .before .before .before .before
-    .before .before .before .before .before .before .if1 .left)
-    (record {
+    over-done (sym (b .before .before .before .before .before .before .before .before .before .before .short .ensures .0) ∙ b .before .before .before
+    .before .before .before .before .before .before .if1 .left) (record {
       patches = d .result .patches;
       candidates = d .result .candidates;
-      most = d .result .waiting;
+      waited = d
+          .result .waited;
       places = d .result .places;
       quad = d .result .quad;
       detection = detection _ _ _ _ _ _ _ _ _ _ _ (n .0) (d .ensures);
-      counts-are = n .1;
+      counts-are =
+          n .1;
       points-are = n .2;
     })
 

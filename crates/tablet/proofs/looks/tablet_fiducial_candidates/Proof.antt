@@ -57,16 +57,18 @@ same-length-9 c = c .before .before .answer-listed .kept .1 .0
 
 returns-2 : tie.Need-returns-2
 returns-2 c =
-    let l = c .before .before .before .before .before .before .before .before .before .before .before .before .before .before .before .before .before .before .before .before .fiducial-candidates in
+    let b = c .before .before .before .before .before .before .before .before .before .before .before .before .before .before .before .before .before
+    .before .before .before in
+    let l = b .fiducial-candidates in
     let n = c .before .before .answer-listed .ensures in
-    over-done (le-ltb _ _ (c .before .before .before .before .before .before .before .before .before .before .before .before .before .before
-    .before .before .before .before .before .before .before .before .before .before .before .before .before .before .before .if1 .left))
-    (record {
-      patches = l .result .patches;
+    over-done (le-ltb _ _ (b .before .before .before .before .before .before .before .before .before .if1 .left)) (record {
+      patches = l .result
+          .patches;
       candidates = l .result .candidates;
-      most = l .result .waiting;
+      waited = l .result .waited;
       listing = listing _ _ _ _ _ _ _ _ _ (n .0) (l .ensures);
-      counts-are = n .1;
+      counts-are = n
+          .1;
     })
 
 pub tablet-fiducial-candidates-spec : {M : Type 1} → statement M

@@ -37,15 +37,13 @@ same-length c = search needs
 returns-2 : tie.Need-returns-2
 unfolding pointsTests
 returns-2 c =
-    let a = c .before .before .before .before .before .before .before .before .before .before .before .before .args in
-    let s =
-    c .before .before .before .before .from-points .ensures
-    ∙ ap (λ q. dlt.fromPoints q (c .before .before .before .before .before .quad2 .result)) (c .before .before .before .before .before .before .quad .ensures)
-    ∙ ap (dlt.fromPoints (quadOf (a .source .now))) (c .before .before .before .before .before .quad2 .ensures) in
+    let b = c .before .before .before .before .before .before in
+    let a = b .before .before .before .before .before .before .args in
+    let s = c .before .before .before .before .from-points .ensures ∙ ap (λ q. dlt.fromPoints q (c .before .before .before .before .before .quad2
+    .result)) (b .quad .ensures) ∙ ap (dlt.fromPoints (quadOf (a .source .now))) (c .before .before .before .before .before .quad2 .ensures) in
     let n = c .before .before .answer .ensures in
     record {
-      number = n .0 ∙ points-number _ _ _ s ∙ sym (lowest-next 3 _ _ (sym (c .before .before .before .before .before .before .before .before
-          .short3 .ensures .0) ∙ c .before .before .before .before .before .before .before .if1 .left));
+      number = n .0 ∙ points-number _ _ _ s ∙ sym (lowest-next 3 _ _ (sym (b .before .before .short3 .ensures .0) ∙ b .before .if1 .left));
       result = n .1 ∙ ap (λ (g : Solved). answered (c .before .before .answer .result) (matrixNumbers (g .h .m)) (a .matrix .now)) s;
     }
 

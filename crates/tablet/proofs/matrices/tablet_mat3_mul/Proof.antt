@@ -38,16 +38,13 @@ same-length c = search needs
 returns-2 : tie.Need-returns-2
 unfolding productTests
 returns-2 c =
-    let a = c .before .before .before .before .before .before .before .before .before .before .before .before .before .before .before .before .args in
-    let y = c .before .before .before .before .before .before .before .before .before .matrix2 .result .m in
-    accepted _ _ _ (lowest-next 3 _ _ (sym (c .before .before .before .before .before .before .before .before .before .before .before
-    .before .short3 .ensures .0) ∙ c .before .before .before .before .before .before .before .before .before .before .before .if1 .left)
-    ∙ lowest-none)
-    (c .before .before .store-matrix .ensures
-    ∙ ap (λ m. written (matrixNumbers m) (a .result .now))
-    (c .before .before .before .before .mat3-mul .ensures
-    ∙ ap (λ (h : Homography). mat3Mul (h .m) y) (c .before .before .before .before .before .before .before .before .before .before .matrix .ensures)
-    ∙ ap (λ (h : Homography). mat3Mul (matrixOf (a .a .now) .m) (h .m)) (c .before .before .before .before .before .before .before .before .before .matrix2 .ensures)))
+    let b = c .before .before .before .before .before .before .before .before .before in
+    let a = b .before .before .before .before .before .before .before .args in
+    let y = b .matrix2 .result .m in
+    accepted _ _ _ (lowest-next 3 _ _ (sym (b .before .before .before .short3 .ensures .0) ∙ b .before .before .if1 .left) ∙ lowest-none) (c .before
+    .before .store-matrix .ensures ∙ ap (λ m. written (matrixNumbers m) (a .result .now)) (c .before .before .before .before .mat3-mul .ensures ∙ ap
+    (λ (h : Homography). mat3Mul (h .m) y) (b .before .matrix .ensures) ∙ ap (λ (h : Homography). mat3Mul (matrixOf (a .a .now) .m) (h .m)) (b
+    .matrix2 .ensures)))
 
 pub tablet-mat3-mul-spec : {M : Type 1} → statement M
 tablet-mat3-mul-spec =

@@ -40,14 +40,11 @@ same-length c = search needs
 returns-2 : tie.Need-returns-2
 unfolding errorTests
 returns-2 c =
-    let a = c .before .before .before .before .before .before .before .before .before .before .before .before .before .args in
-    accepted _ _ _ (lowest-next 3 _ _ (sym (c .before .before .before .before .before .before .before .before .before .short3 .ensures .0)
-    ∙ c .before .before .before .before .before .before .before .before .if1 .left) ∙ lowest-none)
-    (c .before .before .store .ensures
-    ∙ ap (λ e. written (e ∷ []) (a .result .now))
-    (c .before .before .before .before .before .rms-error .ensures
-    ∙ ap (λ q. rmsError q (c .before .before .before .before .before .before .quad2 .result)) (c .before .before .before .before .before .before .before .quad .ensures)
-    ∙ ap (rmsError (quadOf (a .a .now))) (c .before .before .before .before .before .before .quad2 .ensures)))
+    let b = c .before .before .before .before .before .before in
+    let a = b .before .before .before .before .before .before .before .args in
+    accepted _ _ _ (lowest-next 3 _ _ (sym (b .before .before .before .short3 .ensures .0) ∙ b .before .before .if1 .left) ∙ lowest-none) (c .before
+    .before .store .ensures ∙ ap (λ e. written (e ∷ []) (a .result .now)) (c .before .before .before .before .before .rms-error .ensures ∙ ap (λ q.
+    rmsError q (b .quad2 .result)) (b .before .quad .ensures) ∙ ap (rmsError (quadOf (a .a .now))) (b .quad2 .ensures)))
 
 pub tablet-rms-error-spec : {M : Type 1} → statement M
 tablet-rms-error-spec =

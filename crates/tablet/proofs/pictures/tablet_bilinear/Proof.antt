@@ -49,15 +49,15 @@ same-length c = search needs
 returns-3 : tie.Need-returns-3
 unfolding colourTests colourFor colourNumbers
 returns-3 c =
-    let a = c .before .before .before .before .before .before .before .before .before .before .before .before .args in
+    let b = c .before .before .before .before .before .before in
+    let a = b .before .before .before .before .before .before .args in
     let img = image (a .w) (a .h) (a .capture .now) in
-    let z : lowestOf (captureTests img) ≡ 0 = sym (c .before .before .before .before .before .before .before .before .colour-number .ensures
-    ∙ ap colourRefusal (c .before .before .before .before .before .before .before .before .before .bilinear .ensures)
-    ∙ colour-number _ _) ∙ c .before .before .before .before .before .before .before .if1 .left in
-    let v = c .before .before .before .before .before .colour-value .ensures ∙ ap colourValue (c .before .before .before .before .before
-    .before .before .before .before .bilinear .ensures) ∙ colour-value _ _ z in
-    accepted _ _ _ (lowest-past _ 0 _ (capture-rising img) z ∙ lowest-next 3 _ _ (le-ltb _ _ (c .before .before .before .before .before .before .if2 .left)) ∙ lowest-none)
-    (c .before .before .store-bytes .ensures ∙ ap (λ (k : Rgb). written (colourNumbers k) (a .colour .now)) v)
+    let z : lowestOf (captureTests img) ≡ 0 = sym (b .before .before .colour-number .ensures ∙ ap colourRefusal (b .before .before .before .bilinear
+    .ensures) ∙ colour-number _ _) ∙ b .before .if1 .left in
+    let v = c .before .before .before .before .before .colour-value .ensures ∙ ap colourValue (b .before .before .before .bilinear .ensures) ∙
+    colour-value _ _ z in
+    accepted _ _ _ (lowest-past _ 0 _ (capture-rising img) z ∙ lowest-next 3 _ _ (le-ltb _ _ (b .if2 .left)) ∙ lowest-none) (c .before .before
+    .store-bytes .ensures ∙ ap (λ (k : Rgb). written (colourNumbers k) (a .colour .now)) v)
 
 pub tablet-bilinear-spec : {M : Type 1} → statement M
 tablet-bilinear-spec =

@@ -12,7 +12,7 @@ mask-first-requires : tie.Need-mask-first-requires
 mask-first-requires c κs = search needs
 
 returns : tie.Need-returns
-returns c = over-short (lt-ltb _ _ (c .before .if1 .taken)) (c .mask-first .ensures) (refl, refl, refl, refl)
+returns c = over-short (lt-ltb _ _ (c .before .if1 .taken)) (c .mask-first .ensures) (refl, refl)
 
 label-blobs-requires : tie.Need-label-blobs-requires
 label-blobs-requires c κs = search needs
@@ -31,12 +31,14 @@ same-length-3 c = search needs
 
 returns-2 : tie.Need-returns-2
 returns-2 c =
-    over-done (le-ltb _ _ (c .before .before .before .before .before .before .before .before .before .before .before .before .if1 .left))
-    (record {
-      patches = c .before .before .before .before .before .before .before .before .label-blobs .result .patches;
-      most = c .before .before .before .before .before .before .before .before .label-blobs .result .waiting;
-      labelling = labelling _ _ _ _ _ _ _ _ _ _ _ _ _ (c .before .number-of .ensures) (c .before .before .before .before .before .before .before .before .label-blobs .ensures);
-      counts-are = answered-refused _ _ (c .if2 .taken);
+    let b = c .before .before .before .before .before .before .before .before in
+    over-done (le-ltb _ _ (b .before .before .before .before .if1 .left)) (record {
+      patches = b .label-blobs .result .patches;
+      waited = b .label-blobs
+          .result .waited;
+      labelling = labelling _ _ _ _ _ _ _ _ _ (c .before .number-of .ensures) (b .label-blobs .ensures);
+      counts-are = answered-refused
+          _ _ (c .if2 .taken);
     })
 
 slice-aggregate-store-counts : tie.Need-slice-aggregate-store-counts
@@ -60,14 +62,16 @@ same-length-7 c = search needs
 returns-3 : tie.Need-returns-3
 unfolding answered
 returns-3 c =
-    over-done (le-ltb _ _ (c .before .before .before .before .before .before .before .before .before .before .before .before .before .before .before .before .before .if1 .left))
-    (record {
-      patches = c .before .before .before .before .before .before .before .before .before .before .before .before .before .label-blobs .result .patches;
-      most = c .before .before .before .before .before .before .before .before .before .before .before .before .before .label-blobs .result .waiting;
-      labelling = labelling _ _ _ _ _ _ _ _ _ _ _ _ _ (sym (c .before .before .before .before .before .if2 .left)
-          ∙ c .before .before .before .before .before .before .number-of .ensures) (c .before .before .before .before .before .before
-          .before .before .before .before .before .before .before .label-blobs .ensures);
-      counts-are = c .before .before .store-counts .ensures;
+    let b = c .before .before .before .before .before .before in
+    over-done (le-ltb _ _ (b .before .before .before .before .before .before .before .before .before .before .before .if1 .left)) (record {
+      patches =
+          b .before .before .before .before .before .before .before .label-blobs .result .patches;
+      waited = b .before .before .before .before .before
+          .before .before .label-blobs .result .waited;
+      labelling = labelling _ _ _ _ _ _ _ _ _ (sym (c .before .before .before .before .before .if2 .left)
+          ∙ b .number-of .ensures) (b .before .before .before .before .before .before .before .label-blobs .ensures);
+      counts-are = c .before .before
+          .store-counts .ensures;
     })
 
 pub tablet-label-blobs-spec : {M : Type 1} → statement M

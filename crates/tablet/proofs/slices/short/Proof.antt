@@ -2,7 +2,7 @@
 use mathlib.Core.Path.{refl}
 use lib.Dec.{ltb}
 use borrow.Author.Tests.{ltb-false}
-use Rattle.frame.proofs.Tests.{or-left, or-right}
+use Rattle.base.proofs.Tests.{or-left, or-right}
 use Rattle.tablet.proofs.slices.short.Statement.{statement}
 use Rattle.tablet.proofs.slices.short.Tie as tie
 

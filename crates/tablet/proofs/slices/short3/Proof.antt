@@ -3,7 +3,7 @@ use mathlib.Core.Path.{refl}
 use mathlib.Core.Bool.{_||_}
 use lib.Dec.{ltb}
 use borrow.Author.Tests.{ltb-false}
-use Rattle.frame.proofs.Tests.{or-left, or-right}
+use Rattle.base.proofs.Tests.{or-left, or-right}
 use Rattle.tablet.proofs.slices.short3.Statement.{statement}
 use Rattle.tablet.proofs.slices.short3.Tie as tie
 

@@ -26,12 +26,12 @@ same-length c = search needs
 returns : tie.Need-returns
 unfolding foundNumbers listNumbers placeNumbers
 returns c =
-    let a = c .before .before .before .before .before .before .before .before .before .args .a in
+    let entry = c .before .before .before .before .before .before .before .before .before .args in
+    let a = entry .a in
     let s = a .places in
-    c .before .before .store-counts .ensures
-    ∙ (λ i. written (a .patches ∷ a .candidates ∷ a .waiting ∷ s .tl ∷ s .tr ∷ s .br ∷ s .bl ∷ a .tried ∷ a .homographies
-    ∷ c .before .before .before .before .before .before .kept-number .ensures i ∷ c .before .before .before .before .before .kept-cell
-    .ensures i ∷ []) (c .before .before .before .before .before .before .before .before .before .args .counts .now))
+    c .before .before .store-counts .ensures ∙ (λ i. written (a .patches ∷ a .candidates ∷ a .waited ∷ s .tl ∷ s .tr ∷ s .br ∷ s .bl ∷ a .tried ∷ a
+    .homographies ∷ c .before .before .before .before .before .before .kept-number .ensures i ∷ c .before .before .before .before .before .kept-cell
+    .ensures i ∷ []) (entry .counts .now))
 
 pub store-found-spec : {M : Type 1} → statement M
 store-found-spec = tie.close (tie.spec kept-number-requires kept-cell-requires slice-aggregate-store-counts store-counts-requires same-length returns)

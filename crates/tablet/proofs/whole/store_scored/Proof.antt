@@ -50,9 +50,10 @@ same-length c = search needs
 
 returns : tie.Need-returns
 unfolding scoredFit fitNumbers matrixNumbers lensNumbers
-returns c = c .before .before .store .ensures ∙ ap (λ (s : Float). written (fitNumbers (c .before .before .before .before .before .before
-    .before .before .before .before .before .args .a .fit) ++ (s ∷ [])) (c .before .before .before .before .before .before .before .before
-    .before .before .before .args .fit .now)) (c .before .before .before .before .before .kept-score .ensures)
+returns c =
+    let a = c .before .before .before .before .before .before .before .before .before .before .before .args in
+    c .before .before .store .ensures ∙ ap (λ (s : Float). written (fitNumbers (a .a .fit) ++ (s ∷ [])) (a .fit .now)) (c .before .before .before
+    .before .before .kept-score .ensures)
 
 pub store-scored-spec : {M : Type 1} → statement M
 store-scored-spec =

@@ -18,11 +18,10 @@ rectify-requires : tie.Need-rectify-requires
 rectify-requires c κs = search needs
 
 tell-requires : tie.Need-tell-requires
-tell-requires c κs = c .before .before .before .before .before .before .before .before .before .before .before .before .before .before
-    .before .before .before .before .before .before .before .before .before .before .before .before .before .before .before .before .before
-    .before .before .before .short .ensures .1 (c .before .before .before .before .before .before .before .before .before .before .before
-    .before .before .before .before .before .before .before .before .before .before .before .before .before .before .before .before .before
-    .before .before .before .before .before .if1 .left)
+tell-requires c κs =
+    let b = c .before .before .before .before .before .before .before .before .before .before .before .before .before .before .before .before .before
+    .before .before .before .before .before .before .before .before .before .before .before .before .before .before .before .before in
+    b .before .short .ensures .1 (b .if1 .left)
 
 same-length : tie.Need-same-length
 same-length c = c .before .before .before .before .before .before .before .before .before .before .before .before .before .before .before
@@ -78,19 +77,14 @@ same-length-12 c = c .before .before .before .before .tell .kept .1 .1 .0
 
 returns-2 : tie.Need-returns-2
 returns-2 c =
-    over-done (sym (c .before .before .before .before .before .before .before .before .before .before .before .before .before .before
-    .before .before .before .before .before .before .before .before .before .before .before .before .before .before .before .before
-    .before .before .before .before .before .before .before .before .before .short .ensures .0) ∙ c .before .before .before .before
-    .before .before .before .before .before .before .before .before .before .before .before .before .before .before .before .before
-    .before .before .before .before .before .before .before .before .before .before .before .before .before .before .before .before
-    .before .before .if1 .left)
-    (record {
-      answer = c .before .before .before .before .before .before .before .before .before .before .before .before .before .before
-          .before .before .before .before .before .before .before .before .before .before .before .before .before .rectify .result;
-      rectification = c .before .before .before .before .before .before .before .before .before .before .before .before .before .before
-          .before .before .before .before .before .before .before .before .before .before .before .before .before .rectify .ensures;
-      tells = c
-          .before .before .before .before .tell .ensures;
+    let b = c .before .before .before .before .before .before .before .before .before .before .before .before .before .before .before .before .before
+    .before .before .before .before .before .before .before .before .before .before in
+    over-done (sym (b .before .before .before .before .before .before .before .before .before .before .before .before .short .ensures .0) ∙ b .before
+    .before .before .before .before .before .before .before .before .before .before .if1 .left) (record {
+      answer = b .rectify .result;
+      rectification =
+          b .rectify .ensures;
+      tells = c .before .before .before .before .tell .ensures;
     })
 
 pub tablet-rectify-spec : {M : Type 1} → statement M

@@ -12,13 +12,14 @@ returns-2 : tie.Need-returns-2
 returns-2 c = search needs
 
 mul-result : tie.Need-mul-result
-mul-result c = omega (
-  arith,
-  product-le (c .before .before .args .a) (c .before .before .args .b) (c .before .before .args .most)
-      (c .before .before .args .most) (omega arith) (omega arith),
-  product-le (c .before .before .args .most) (c .before .before .args .most)
-      4096 4096 (omega arith) (omega arith),
-)
+mul-result c =
+    let a = c .before .before .args in
+    omega (
+      arith,
+      product-le (a .a) (a .b) (a .most) (a .most) (omega arith) (omega arith),
+      product-le (a .most) (a .most) 4096 4096 (omega arith)
+          (omega arith),
+    )
 
 returns-3 : tie.Need-returns-3
 returns-3 c = product-le _ _ _ _ (omega arith) (omega arith)

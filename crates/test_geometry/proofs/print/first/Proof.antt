@@ -5,8 +5,8 @@ use borrow.Author.Needs.{needs}
 use Rattle.test_geometry.proofs.print.first.Statement.{statement}
 use Rattle.test_geometry.proofs.print.first.Tie as tie
 
-least-requires : tie.Need-least-requires
-least-requires c κs = search needs
+min-requires : tie.Need-min-requires
+min-requires c κs = search needs
 
 slice-aggregate-of-bytes : tie.Need-slice-aggregate-of-bytes
 slice-aggregate-of-bytes c = simp length-take (omega arith)
@@ -27,7 +27,7 @@ pub first-spec : {M : Type 1} → statement M
 first-spec =
     tie.close
     (tie.spec
-    least-requires
+    min-requires
     slice-aggregate-of-bytes
     of-bytes-requires
     slice-aggregate-line

@@ -12,11 +12,11 @@ Inv-loop a from to i₀ i-end i = i-end ≤ length a
 abbrev μ-loop : tie.MeasureT-loop
 μ-loop a from to i₀ i-end i = i-end - i
 
-least-requires : tie.Need-least-requires Inv-loop μ-loop
-least-requires c κs = search needs
+min-requires : tie.Need-min-requires Inv-loop μ-loop
+min-requires c κs = search needs
 
 loop-holds : tie.Need-loop-holds Inv-loop μ-loop
-loop-holds c = omega (arith, c .least .ensures)
+loop-holds c = omega (arith, c .min .ensures)
 
 mul-wide : tie.Need-mul-wide Inv-loop μ-loop
 mul-wide c = search needs
@@ -48,7 +48,7 @@ shorts-spec =
     (tie.spec
     Inv-loop
     μ-loop
-    least-requires
+    min-requires
     loop-holds
     mul-wide
     shared-slice-read-wide

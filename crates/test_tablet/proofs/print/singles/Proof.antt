@@ -12,11 +12,11 @@ Inv-loop a from to i₀ i-end i = i-end ≤ length a
 abbrev μ-loop : tie.MeasureT-loop
 μ-loop a from to i₀ i-end i = i-end - i
 
-least-requires : tie.Need-least-requires Inv-loop μ-loop
-least-requires c κs = search needs
+min-requires : tie.Need-min-requires Inv-loop μ-loop
+min-requires c κs = search needs
 
 loop-holds : tie.Need-loop-holds Inv-loop μ-loop
-loop-holds c = omega (arith, c .least .ensures)
+loop-holds c = omega (arith, c .min .ensures)
 
 mul-bits32 : tie.Need-mul-bits32 Inv-loop μ-loop
 mul-bits32 c = search needs
@@ -51,7 +51,7 @@ singles-spec =
     (tie.spec
     Inv-loop
     μ-loop
-    least-requires
+    min-requires
     loop-holds
     mul-bits32
     shared-slice-read-bits32

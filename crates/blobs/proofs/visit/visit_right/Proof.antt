@@ -1,0 +1,56 @@
+-- `blobs::visit::visit_right` meets its contract. Assumes nothing.
+use Prim.Native.Nat.{_+_, _%_}
+use native.Mathlib.Omega.{arith}
+use mathlib.Core.Path.{_∙_}
+use denote.Ref.{now}
+use borrow.Author.Needs.{needs}
+use lib.Dec.{ltb}
+use Rattle.base.proofs.Pick.{pick-yes, pick-no}
+use Rattle.blobs.specs.Stack.{marking, stackOf, visit, visitRight}
+use native.Mathlib.Nat.{mod-lt}
+use borrow.Author.Tests.{lt-ltb, le-ltb}
+use Rattle.blobs.proofs.Grid.{in-row}
+use Rattle.blobs.proofs.visit.visit_right.Statement.{statement}
+use Rattle.blobs.proofs.visit.visit_right.Tie as tie
+
+add-if1 : tie.Need-add-if1
+add-if1 c =
+    let a = c .before .before .before in
+    omega (arith, mod-lt (a .args .p) (a .pre .1 .0 .wide), a .pre .1 .1)
+
+add-visit : tie.Need-add-visit
+add-visit c = search needs
+
+visit-requires : tie.Need-visit-requires
+visit-requires c κs =
+    let a = c .before .before .before .before .before .before in
+    (a .pre .0, (in-row (a .args .p) _ (a .args .w) (a .pre .1 .0 .inside) (a .pre .1 .0 .whole) (omega (arith, a .pre .1 .1, c .before .before .if1 .taken)), a .pre .1 .0 .small))
+
+same-length : tie.Need-same-length
+same-length c = search needs
+
+same-length-2 : tie.Need-same-length-2
+same-length-2 c = search needs
+
+returns : tie.Need-returns
+unfolding visitRight
+returns c =
+    let a = c .before .before .before .before .before .before .before .before .before .before .before in
+    let t = c .before .before .before .before .before .before .before .if1 .taken in
+    c .before .before .before .before .visit .ensures ∙ pick-yes (ltb (a .args .p % a .args .w + 1) (a .args .w))
+    (visit (now (a .args .mask)) (a .args .p + 1) (marking (now (a .args .seen)) (stackOf (now (a .args .waiting)) (a .args .top))))
+    (marking (now (a .args .seen)) (stackOf (now (a .args .waiting)) (a .args .top))) (lt-ltb (a .args .p % a .args .w + 1) (a .args .w)
+    (omega (arith, a .pre .1 .1, t)))
+
+returns-2 : tie.Need-returns-2
+unfolding visitRight
+returns-2 c =
+    let a = c .before .before .before .before in
+    let t = c .if1 .left in
+    pick-no (ltb (a .args .p % a .args .w + 1) (a .args .w)) (visit (now (a .args .mask)) (a .args .p + 1) (marking (now (a .args .seen))
+    (stackOf (now (a .args .waiting)) (a .args .top)))) (marking (now (a .args .seen)) (stackOf (now (a .args .waiting))
+    (a .args .top))) (le-ltb (a .args .p % a .args .w + 1) (a .args .w) (omega (arith, a .pre .1 .1, t)))
+
+pub visit-right-spec : {M : Type 1} → statement M
+visit-right-spec =
+    tie.close (tie.spec add-if1 add-visit visit-requires same-length same-length-2 returns returns-2)
