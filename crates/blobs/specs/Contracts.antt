@@ -19,6 +19,7 @@ patchTests w h mask seen waiting patches =
     ∷ check 3 (ltb seen (w * h) || (ltb waiting (w * h) || ltb patches (recordLength * ((w * h + 1) / 2))))
     ∷ []
 
+-- .. of a mask m and the areas that are lent
 abbrev pub labelTests : List ℕ → ℕ → ℕ → PatchAreas → List Check
 labelTests m w h a = patchTests w h (length m) (length (a .seen)) (length (a .waiting)) (length (a .patches))
 
