@@ -33,18 +33,16 @@ now-flooding c = flooding (c .loop .seen) (stackOf (c .loop .waiting) (c .loop .
 waiting-some : (c : tie.After-no-blob Inv-loop μ-loop) → 0 < length (now (c .before .before .before .before .args .waiting))
 waiting-some c = let g = c .before .before .before .before .pre in omega (arith, g .0 .pixel .inside, g .1)
 
-state : (c : tie.At-loop Inv-loop μ-loop) → now-flooding c ≡ turns (c .loop .blob .area) (floodStep (now (c .before .before .before .before
-    .before .args .mask)) (c .before .before .before .before .before .args .w)) (begun (c .before .before .before .before .before .args .w)
-    (c .before .before .before .before .before .args .a) (now (c .before .before .before .before .before .args .seen)))
+state : (c : tie.At-loop Inv-loop μ-loop) → let a = c .before .before .before .before .before .args in
+    now-flooding c ≡ turns (c .loop .blob .area) (floodStep (now (a .mask)) (a .w)) (begun (a .w) (a .a) (now (a .seen)))
 state c =
     let s = c .before .before .before .before .before .args in
     c .loop .inv .0
     ∙ ap (turns (c .loop .blob .area) (floodStep (now (s .mask)) (s .w))) (begun-is (now (s .seen)) (now (s .waiting)) (s .w) (s .a)
     (c .before .no-blob .result) (waiting-some (c .before)) (c .before .no-blob .ensures))
 
-progress : (c : tie.At-loop Inv-loop μ-loop) → Progress (now (c .before .before .before .before .before .args .mask)) (c .before .before
-    .before .before .before .args .w) (c .before .before .before .before .before .args .a) (now (c .before .before .before .before .before
-    .args .seen)) (now-flooding c)
+progress : (c : tie.At-loop Inv-loop μ-loop) → let a = c .before .before .before .before .before .args in
+    Progress (now (a .mask)) (a .w) (a .a) (now (a .seen)) (now-flooding c)
 progress c =
     let s = c .before .before .before .before .before in
     subst (Progress (now (s .args .mask)) (s .args .w) (s .args .a) (now (s .args .seen))) (sym (state c)) (progress-turns (s .pre .0) (c .loop .blob .area))

@@ -14,16 +14,16 @@ use Rattle.candidates.proofs.Tallies.{probing-none, probing-made}
 use Rattle.candidates.proofs.bullseye.probe.Statement.{statement}
 use Rattle.candidates.proofs.bullseye.probe.Tie as tie
 
-at-row : (c : tie.After-to-usize) → Pixel (c .before .before .before .before .before .args .w) (c .before .before .before .before .before
-    .args .h) (asUsize (c .before .before .before .before .before .args .p .x)) (c .to-usize .result)
+at-row : (c : tie.After-to-usize) → let a = c .before .before .before .before .before .args in
+    Pixel (a .w) (a .h) (asUsize (a .p .x)) (c .to-usize .result)
 at-row c =
     let a = c .before .before .before .before .before .args in
     let p = c .before .before .before .before .before .pre .0 in
     pixel (a .w) (a .h) (a .p .x) (a .p .y) (c .before .before .outside .result) (asUsize (a .p .x)) (c .to-usize .result) (p .w-some) (p .w-held) (p .h-some) (p .h-held)
     (c .before .before .outside .ensures) (c .before .if1 .left) refl (c .to-usize .ensures)
 
-at-pixel : (c : tie.After-to-usize2) → Pixel (c .before .before .before .before .before .before .args .w) (c .before .before .before .before
-    .before .before .args .h) (c .to-usize2 .result) (c .before .to-usize .result)
+at-pixel : (c : tie.After-to-usize2) → let a = c .before .before .before .before .before .before .args in
+    Pixel (a .w) (a .h) (c .to-usize2 .result) (c .before .to-usize .result)
 at-pixel c =
     let a = c .before .before .before .before .before .before .args in
     let p = c .before .before .before .before .before .before .pre .0 in

@@ -75,11 +75,9 @@ probe-arms-requires-4 c κs =
 share-requires : tie.Need-share-requires
 share-requires c κs = search needs
 
-all-probes : (c : tie.After-share) → Probing (now (c .before .before .before .before .before .before .before .before .before .before .before
-    .before .args .mask)) (now (c .before .before .before .before .before .before .before .before .before .before .before .before .args
-    .luma)) (c .before .before .before .before .before .before .before .before .before .before .before .before .args .w) (c .before .before
-    .before .before .before .before .before .before .before .before .before .before .args .h) (probes (c .before .before .before .before
-    .before .before .before .before .before .before .before .before .args .b)) noneMade (c .before .probe-arms4 .result)
+all-probes : (c : tie.After-share) →
+    let a = c .before .before .before .before .before .before .before .before .before .before .before .before .args in
+    Probing (now (a .mask)) (now (a .luma)) (a .w) (a .h) (probes (a .b)) noneMade (c .before .probe-arms4 .result)
 unfolding probes ofBits ofInt d64
 all-probes c =
     probing-more _ _ _ _ _ _ _ _ _ (c .before .before .before .before .before .probe .ensures)

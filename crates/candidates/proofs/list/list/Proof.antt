@@ -24,11 +24,8 @@ loop-holds : tie.Need-loop-holds Inv-loop μ-loop
 loop-holds c = (list-none _ _ _ _ _ _ _, omega arith, omega arith)
 
 -- what the ring rule says of patch j
-ring-is : (c : tie.After-candidate-of Inv-loop μ-loop) → c .candidate-of .result ≡ ringOf (now (c .before .before .before .before .before
-    .before .before .before .before .args .mask)) (now (c .before .before .before .before .before .before .before .before .before .args
-    .luma)) (c .before .before .before .before .before .before .before .before .before .args .w) (c .before .before .before .before .before
-    .before .before .before .before .args .h) (patchAt (now (c .before .before .before .before .before .before .before .before .before .args
-    .patches)) (c .before .before .before .loop .j))
+ring-is : (c : tie.After-candidate-of Inv-loop μ-loop) → let a = c .before .before .before .before .before .before .before .before .before .args in
+    c .candidate-of .result ≡ ringOf (now (a .mask)) (now (a .luma)) (a .w) (a .h) (patchAt (now (a .patches)) (c .before .before .before .loop .j))
 ring-is c =
     let a = c .before .before .before .before .before .before .before .before .before .args in
     c .candidate-of .ensures ∙ ap (ringOf (now (a .mask)) (now (a .luma)) (a .w) (a .h)) (c .before .blob-at .ensures)

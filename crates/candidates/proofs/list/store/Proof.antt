@@ -9,8 +9,8 @@ use borrow.Author.Needs.{needs}
 use Rattle.candidates.proofs.list.store.Statement.{statement}
 use Rattle.candidates.proofs.list.store.Tie as tie
 
-room : (c : tie.After-known-told) → (4 * c .before .before .before .args .k + 4 ≤ length (now (c .before .before .before .args
-    .candidates))) × (c .before .before .before .args .k < length (now (c .before .before .before .args .blob-index)))
+room : (c : tie.After-known-told) → let a = c .before .before .before .args in
+    (4 * a .k + 4 ≤ length (now (a .candidates))) × (a .k < length (now (a .blob-index)))
 room c = c .before .before .before .pre .room (λ e. let g = c .before .ring .given .1 in let z : _≡_ {A = ℕ} 0 1 = cc in omega arith)
 
 enum-known-ring : tie.Need-enum-known-ring

@@ -17,16 +17,15 @@ use Rattle.fiducials.proofs.internal.corners.Tie as tie
 in-list : (n k x : ℕ) (p : ℕ → Rattle.frame.specs.declared.Point.Point) → 4 ≤ k → x ≡ pick (cornerOf n) p k → x < k
 in-list n k x p a e = subst (λ z. z < k) (sym e) (pick-below (cornerOf n) p k (omega arith))
 
-shared-fact : (c : tie.After-shared) → c .shared .result ≡ sharedPick (centerAt (now (c .before .before .before .before .before .before
-    .before .before .args .candidates))) (c .before .before .before .before .before .before .before .before .args .k)
+shared-fact : (c : tie.After-shared) → let a = c .before .before .before .before .before .before .before .before .args in
+    c .shared .result ≡ sharedPick (centerAt (now (a .candidates))) (a .k)
 shared-fact c =
     let a = c .before .before .before .before .before .before .before .before .args in
     c .shared .ensures ∙ shared-is (centerAt (now (a .candidates))) (a .k) _ _ _ _ (c .before .before .before .before .pick .ensures) (c .before
     .before .before .pick2 .ensures) (c .before .before .pick3 .ensures) (c .before .pick4 .ensures)
 
-quad-fact : (c : tie.After-quad-at) → c .quad-at .result ≡ quadOf (centerAt (now (c .before .before .before .before .before .before .before
-    .before .before .before .args .candidates))) (c .before .before .before .before .before .before .before .before .before .before .args
-    .k)
+quad-fact : (c : tie.After-quad-at) → let a = c .before .before .before .before .before .before .before .before .before .before .args in
+    c .quad-at .result ≡ quadOf (centerAt (now (a .candidates))) (a .k)
 quad-fact c =
     let a = c .before .before .before .before .before .before .before .before .before .before .args in
     let p = centerAt (now (a .candidates)) in

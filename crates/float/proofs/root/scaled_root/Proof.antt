@@ -22,7 +22,8 @@ sub-result c = search needs
 mul-result : tie.Need-mul-result
 mul-result c = search needs
 
-found : (c : tie.After-root-by-digits) → c .root-by-digits .result ≡ nearestRoot (c .before .args .d * 2 ^ (c .before .args .g % 2) * 2 ^ 52)
+found : (c : tie.After-root-by-digits) → let a = c .before .args in
+    c .root-by-digits .result ≡ nearestRoot (a .d * 2 ^ (a .g % 2) * 2 ^ 52)
 found c =
     let s = c .before in
     c .root-by-digits .ensures ∙ ap (λ (z : ℕ). nearestRoot (z * 2 ^ 52)) (shl-is (s .args .d) (s .args .g) (s .pre .0) (s .pre .1 .0) (s .pre .1 .1 .0) (s .pre .1 .1 .1))

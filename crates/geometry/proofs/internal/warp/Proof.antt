@@ -30,8 +30,8 @@ mul-size c = search needs
 loop-holds : tie.Need-loop-holds Inv-loop μ-loop
 loop-holds c = (filled-end _ _ _ _ (filled-begin _ _) (search needs), search needs, refl)
 
-room : (c : tie.In-loop Inv-loop μ-loop) → c .before .loop .y * (3 * c .before .before .before .before .args .frame .width) + 3 * c .before
-    .before .before .before .args .frame .width ≤ length (c .before .loop .canonical)
+room : (c : tie.In-loop Inv-loop μ-loop) → let a = c .before .before .before .before .args in
+    c .before .loop .y * (3 * a .frame .width) + 3 * a .frame .width ≤ length (c .before .loop .canonical)
 room c =
     let a = c .before .before .before .before .args in
     omega (arith, row-fits (c .before .loop .y) (a .frame .height) (3 * a .frame .width) (omega arith))

@@ -6,8 +6,9 @@ use Rattle.mask.proofs.Boxes.{Corners, corners, box-is}
 use Rattle.mask.proofs.internal.box_mean.Statement.{statement}
 use Rattle.mask.proofs.internal.box_mean.Tie as tie
 
-box : (c : tie.After-min2) → Corners (c .before .before .before .before .before .args .w) (c .before .before .before .before .before .args
-    .h) (c .before .before .before .saturating-sub .result) (c .before .before .min .result) (c .before .saturating-sub2 .result) (c .min2 .result)
+box : (c : tie.After-min2) → let a = c .before .before .before .before .before .args in
+    Corners (a .w) (a .h) (c .before .before .before .saturating-sub .result) (c .before .before .min .result) (c .before .saturating-sub2 .result) (c
+    .min2 .result)
 box c = corners _ _ _ _ _ _ (omega arith) (omega arith) (omega arith) (omega arith) (omega arith) (omega arith)
 
 add-s : tie.Need-add-s

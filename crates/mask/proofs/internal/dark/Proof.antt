@@ -13,7 +13,8 @@ use Rattle.mask.proofs.Boxes.{mean-is}
 use Rattle.mask.proofs.internal.dark.Statement.{statement}
 use Rattle.mask.proofs.internal.dark.Tie as tie
 
-here : (c : tie.After-shared-slice-known2) → Place (c .before .before .args .x) (c .before .before .args .y) (c .before .before .args .w) (c .before .before .args .h)
+here : (c : tie.After-shared-slice-known2) → let a = c .before .before .args in
+    Place (a .x) (a .y) (a .w) (a .h)
 here c = place _ _ _ _ (omega arith) (omega arith)
 
 same : (c : tie.After-box-mean) →

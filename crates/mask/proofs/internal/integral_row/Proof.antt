@@ -26,11 +26,12 @@ Inv-loop luma w h y integral₀ s base row₀ x₀ integral row x =
 abbrev μ-loop : tie.MeasureT-loop
 μ-loop luma w h y integral₀ s base row₀ x₀ integral row x = w - x
 
-begin : (c : tie.After-slice-known Inv-loop μ-loop) → Place 0 (c .before .before .args .y + 1) (c .before .before .args .w + 1) (c .before .before .args .h + 1)
+begin : (c : tie.After-slice-known Inv-loop μ-loop) → let a = c .before .before .args in
+    Place 0 (a .y + 1) (a .w + 1) (a .h + 1)
 begin c = place _ _ _ _ (omega arith) (omega arith)
 
-here : (c : tie.In-loop Inv-loop μ-loop) → Place (c .before .loop .x) (c .before .before .before .before .args .y) (c .before .before
-    .before .before .args .w) (c .before .before .before .before .args .h)
+here : (c : tie.In-loop Inv-loop μ-loop) → let a = c .before .before .before .before .args in
+    Place (c .before .loop .x) (a .y) (a .w) (a .h)
 here c = place _ _ _ _ (omega arith) (omega arith)
 
 length-is : (c : tie.At-loop Inv-loop μ-loop) → length (c .loop .integral) ≡ length (c .before .before .before .args .integral .now)

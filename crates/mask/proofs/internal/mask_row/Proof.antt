@@ -23,8 +23,8 @@ Inv-loop luma integral w h radius y mask₀ x₀ mask x =
 abbrev μ-loop : tie.MeasureT-loop
 μ-loop luma integral w h radius y mask₀ x₀ mask x = w - x
 
-here : (c : tie.In-loop Inv-loop μ-loop) → Place (c .before .loop .x) (c .before .before .before .before .before .args .y)
-    (c .before .before .before .before .before .args .w) (c .before .before .before .before .before .args .h)
+here : (c : tie.In-loop Inv-loop μ-loop) → let a = c .before .before .before .before .before .args in
+    Place (c .before .loop .x) (a .y) (a .w) (a .h)
 here c = place _ _ _ _ (omega arith) (omega arith)
 
 loop-holds : tie.Need-loop-holds Inv-loop μ-loop

@@ -18,9 +18,9 @@ use Rattle.patch_text.proofs.internal.answer_text.Statement.{statement}
 use Rattle.patch_text.proofs.internal.answer_text.Tie as tie
 
 -- the text is a mask of w by h
-reads : (c : tie.Else1) → Reads (now (c .before .before .before .before .before .before .before .before .args .text)) (c .before .mask-size
-    .result .w) (c .before .mask-size .result .h) (table (pixelAt (now (c .before .before .before .before .before .before .before .before
-    .args .text)) (c .before .mask-size .result .w)) (c .before .mask-size .result .w * c .before .mask-size .result .h))
+reads : (c : tie.Else1) → let a = c .before .before .before .before .before .before .before .before .args in
+    Reads (now (a .text)) (c .before .mask-size .result .w) (c .before .mask-size .result .h) (table (pixelAt (now (a .text)) (c .before .mask-size
+    .result .w)) (c .before .mask-size .result .w * c .before .mask-size .result .h))
 reads c = c .before .mask-size .ensures .reads (omega (arith, c .if1 .left))
 
 -- the mask that was filled in is that of the text
@@ -47,17 +47,14 @@ long c = omega (
 )
 
 -- what labelling left
-labels : (c : tie.After-label-blobs)
-    → Labels (take (c .before .before .before .before .before .before .before .before .before .before .mask-size .result .w * c .before
-    .before .before .before .before .before .before .before .before .before .mask-size .result .h) (c .before .before .before .before
-    .before .before .before .fill .last .1 .1 .1 .0)) (c .before .before .before .before .before .before .before .before .before .before
-    .mask-size .result .w) (c .before .before .before .before .before .before .before .before .before .before .mask-size .result .h)
-    (patchAreas (now (c .before .before .before .before .before .before .before .before .before .before .before .before .before .before .before
-    .before .before .args .seen)) (now (c .before .before .before .before .before .before .before .before .before .before .before
-    .before .before .before .before .before .before .args .waiting)) (now (c .before .before .before .before .before .before .before
-    .before .before .before .before .before .before .before .before .before .before .args .patches)))
-    (patchAreas (c .label-blobs .last .1 .1 .1 .0) (c .label-blobs .last .1 .1 .1 .1 .0) (c .label-blobs .last .1 .1 .1 .1 .1 .0))
-    (c .label-blobs .result .patches) (c .label-blobs .result .waited)
+labels : (c : tie.After-label-blobs) →
+    let a = c .before .before .before .before .before .before .before .before .before .before .before .before .before .before .before .before .before .args in
+    Labels (take (c .before .before .before .before .before .before .before .before .before .before .mask-size .result .w * c .before .before .before
+    .before .before .before .before .before .before .before .mask-size .result .h) (c .before .before .before .before .before .before .before .fill
+    .last .1 .1 .1 .0)) (c .before .before .before .before .before .before .before .before .before .before .mask-size .result .w) (c .before .before
+    .before .before .before .before .before .before .before .before .mask-size .result .h) (patchAreas (now (a .seen)) (now (a .waiting)) (now (a
+    .patches))) (patchAreas (c .label-blobs .last .1 .1 .1 .0) (c .label-blobs .last .1 .1 .1 .1 .0) (c .label-blobs .last .1 .1 .1 .1 .1 .0)) (c
+    .label-blobs .result .patches) (c .label-blobs .result .waited)
 labels c =
     let a = c .before .before .before .before .before .before .before .before .before .before .before .before .before .before .before .before .before
     in

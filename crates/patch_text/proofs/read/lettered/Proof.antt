@@ -19,14 +19,14 @@ abbrev μ-loop : tie.MeasureT-loop
 μ-loop text w k₀ k = length text - k
 
 -- the byte at k does not stand where it may
-placed-is : (c : tie.Then1 Inv-loop μ-loop) → placedAt (now (c .before .before .before .before .before .before .args .text))
-    (c .before .before .before .before .before .before .args .w) (c .before .before .before .before .loop .k) ≡ false
+placed-is : (c : tie.Then1 Inv-loop μ-loop) → let a = c .before .before .before .before .before .before .args in
+    placedAt (now (a .text)) (a .w) (c .before .before .before .before .loop .k) ≡ false
 unfolding placedAt
 placed-is c = sym (c .before .placed .ensures) ∙ not-true _ (c .if1 .taken)
 
 -- .. and does
-placed-then : (c : tie.Else1 Inv-loop μ-loop) → placedAt (now (c .before .before .before .before .before .before .args .text))
-    (c .before .before .before .before .before .before .args .w) (c .before .before .before .before .loop .k) ≡ true
+placed-then : (c : tie.Else1 Inv-loop μ-loop) → let a = c .before .before .before .before .before .before .args in
+    placedAt (now (a .text)) (a .w) (c .before .before .before .before .loop .k) ≡ true
 unfolding placedAt
 placed-then c = sym (c .before .placed .ensures) ∙ not-false _ (c .if1 .left)
 

@@ -12,14 +12,17 @@ use Rattle.sampling.proofs.internal.neighbours.Statement.{statement}
 use Rattle.sampling.proofs.internal.neighbours.Tie as tie
 
 -- the coordinate, held
-clamped : (c : tie.After-clamp) → c .clamp .result ≡ held (c .before .before .args .n) (c .before .before .args .t)
+clamped : (c : tie.After-clamp) → let a = c .before .before .args in
+    c .clamp .result ≡ held (a .n) (a .t)
 unfolding ofBits ofInt d64 round
 clamped c = c .clamp .ensures ∙ ap (λ y. clampOf (f64 0) (y ⊖ f64 1) (c .before .before .args .t ⊖ d64 5 10)) (c .before .to-f64 .ensures)
 
-whole : (c : tie.After-to-usize) → c .to-usize .result ≡ asUsize (held (c .before .before .before .args .n) (c .before .before .before .args .t))
+whole : (c : tie.After-to-usize) → let a = c .before .before .before .args in
+    c .to-usize .result ≡ asUsize (held (a .n) (a .t))
 whole c = c .to-usize .ensures ∙ ap asUsize (clamped (c .before))
 
-inside : (c : tie.After-to-usize) → asUsize (held (c .before .before .before .args .n) (c .before .before .before .args .t)) < c .before .before .before .args .n
+inside : (c : tie.After-to-usize) → let a = c .before .before .before .args in
+    asUsize (held (a .n) (a .t)) < a .n
 inside c = whole-in _ _ (omega arith) (omega arith)
 
 built : (n : ℕ) (t x : Float) (first next : ℕ) (y : Float) → x ≡ held n t → first ≡ asUsize (floorOf (held n t)) → next
