@@ -222,7 +222,8 @@ module _ {m : List ℕ} {w : ℕ} {c : Scanned} {i : ℕ} (v : Scan m w c i) (in
         new-area : blobAt c′ (count c) .area ≡ f .blob .area
         new-area = ap (λ (x : Blob). x .area) blob-new
 
-        more-waited : ((j : ℕ) × (j < count c) × (c .waited ≤ blobAt c j .area)) → Dec (c .waited < f .waited) → (j : ℕ) × (j < count c′) × (max (c .waited) (f .waited) ≤ blobAt c′ j .area)
+        more-waited : ((j : ℕ) × (j < count c) × (c .waited ≤ blobAt c j .area)) → Dec (c .waited < f .waited)
+            → (j : ℕ) × (j < count c′) × (max (c .waited) (f .waited) ≤ blobAt c′ j .area)
         more-waited x (yes y) = (count c, omega (arith, more), omega (arith, g .waited-held, new-area))
         more-waited x (no o) = (x .0, omega (arith, x .1, more), omega (arith, x .2, ap (λ (x : Blob). x .area) (blob-old (x .0) (x .1))))
 

@@ -10,6 +10,7 @@ ghost use Rattle.blobs.specs.Ready.{Ready, Sized};
 ghost use Rattle.blobs.specs.Areas.{patchAreas};
 ghost use Rattle.blobs.specs.Labels.{Labels};
 use super::Blob;
+pub use super::patch::blob_at;
 use super::patch::grow;
 use super::patch::no_blob;
 use super::patch::store;

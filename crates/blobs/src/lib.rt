@@ -1,6 +1,6 @@
 // Patches of dark pixels.
 pub mod internal; // internal.rt: labelling without the tests, for the layers above
-pub mod patch;
+mod patch;
 mod visit;
 
 use frame::Verdict;

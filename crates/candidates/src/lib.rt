@@ -11,9 +11,9 @@ ghost use Rattle.candidates.specs.Contracts.{Listing};
 mod bullseye;
 mod constants;
 pub mod internal;
-pub mod list;
+mod list;
 mod ring_rule;
-pub mod tests;
+mod tests;
 
 // Least share of the probes that must agree.
 pub const VERIFY_THRESHOLD: f64 = 0.78;

@@ -8,7 +8,7 @@ ghost use Rattle.blobs.specs.Patches.{patchAt};
 use super::Candidate;
 use super::Ring;
 use super::ring_rule::candidate_of;
-use blobs::patch::blob_at;
+use blobs::internal::blob_at;
 use frame::Point;
 
 // Writes the record of patch j where it passed, after k others, and answers their number.

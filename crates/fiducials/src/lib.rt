@@ -1,6 +1,6 @@
 // The four corners.
 use candidates::Lengths;
-use candidates::tests::refused;
+use candidates::internal::refused;
 use frame::FrameSpec;
 use frame::Quad;
 use frame::Verdict;
@@ -14,7 +14,7 @@ ghost use Rattle.fiducials.specs.Contracts.{Detection};
 
 pub mod internal;
 mod pick;
-pub mod quadrilateral;
+mod quadrilateral;
 
 // Places in the patch list.
 pub struct Places {

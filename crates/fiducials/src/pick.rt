@@ -5,7 +5,7 @@ ghost use lib.ListN.{length};
 ghost use Rattle.candidates.specs.Ring.{centerAt};
 ghost use Rattle.fiducials.specs.Corners.{cornerOf, pickStep, pick};
 ghost use Rattle.fiducials.specs.Answers.{keyOf};
-use candidates::list::center_at;
+use candidates::internal::center_at;
 use frame::Point;
 
 // The key to be least: 0 for TL, 1 for TR, 2 for BR, 3 for BL.

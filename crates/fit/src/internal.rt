@@ -142,6 +142,7 @@ pub fn grade(
 }
 
 // The score that a grade stands for: outside and too few as −∞.
+// The original's one float: −∞ stands for outside and too few.
 pub fn score_of(g: Grade) -> f64
     ensures { λ r. ⌜ r ≡ scoreOf g ⌝ }
 {

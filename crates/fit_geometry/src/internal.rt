@@ -2,8 +2,8 @@
 use super::FitReport;
 use super::PictureFit;
 use candidates::Lengths;
-use candidates::tests::areas_short;
-use candidates::tests::picture_refused;
+use candidates::internal::areas_short;
+use candidates::internal::picture_refused;
 use fiducials::Found;
 use fiducials::internal::detect;
 use fiducials::internal::no_places;

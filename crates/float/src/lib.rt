@@ -1,6 +1,7 @@
 // The float operations that Rattle lacks, each as IEEE 754 and Rust have it (requirements, 4).
-// Every function of floats takes every value, NaNs, infinities and both zeros too, and each
-// contract is an equation with a definition of specs/.
+// Every function takes every value, NaNs, infinities and both zeros too, and its contract is an
+// equation with a definition of specs/.
+pub mod internal;
 mod order;
 mod root;
 mod rounding;
@@ -14,7 +15,6 @@ pub use root::sqrt;
 pub use rounding::round;
 pub use sign::abs;
 pub use sign::signum;
-pub use whole::to_f64;
 pub use whole::to_u8;
 pub use whole::to_usize;
 pub use width::narrow;

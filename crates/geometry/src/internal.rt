@@ -1,11 +1,11 @@
 // The warp and the tests of `rectify`, for callers that have made theirs.
 use candidates::Lengths;
-use candidates::tests::areas_short;
-use candidates::tests::picture_refused;
+use candidates::internal::areas_short;
+use candidates::internal::picture_refused;
 use fit::GeometryFit;
 use fit_geometry::FitReport;
 use fit_geometry::internal::means_short;
-use float::to_f64;
+use float::internal::to_f64;
 use frame::FrameSpec;
 use frame::Point;
 use frame::Rgb;

@@ -3,7 +3,7 @@
 use base::max;
 use base::min;
 use base::saturating_sub;
-use float::to_f64;
+use float::internal::to_f64;
 use frame::FrameSpec;
 ghost use mathlib.Core.Path.{_≡_};
 ghost use mathlib.Core.Bool.{cond};

@@ -75,7 +75,7 @@ fn put_records(out: &mut [u8], at: usize, patches: &[u64], n: usize) -> usize
     let mut end = at;
     let mut j = 0;
     while j < n {
-        let b = blobs::patch::blob_at(patches, j);
+        let b = blobs::internal::blob_at(patches, j);
         end = put_record(out, end, b);
         j += 1;
     }

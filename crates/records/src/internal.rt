@@ -14,7 +14,7 @@ pub fn store_patch(records: &mut [Blob], patches: &[u64], j: usize)
     requires { ⌜ (j < length (now records)) × (recordLength * j + 6 < length (now patches)) ⌝ }
     ensures { λ _. ⌜ now (records .exit) ≡ set (now (records .entry)) j (patchAt (now (patches .entry)) j) ⌝ }
 {
-    records[j] = blobs::patch::blob_at(patches, j);
+    records[j] = blobs::internal::blob_at(patches, j);
 }
 
 // Record j of the slice.
@@ -32,7 +32,7 @@ pub fn store_candidate(records: &mut [Candidate], candidates: &[f64], blob_index
     ensures { λ _. ⌜ now (records .exit) ≡ set (now (records .entry)) i (candidateAt (now (candidates .entry))
         (now («blob_index» .entry)) i) ⌝ }
 {
-    records[i] = candidates::list::candidate_at(candidates, blob_index, i);
+    records[i] = candidates::internal::candidate_at(candidates, blob_index, i);
 }
 
 // Record i of the slice.

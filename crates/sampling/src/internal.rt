@@ -1,7 +1,7 @@
 // What the layers above call without the public functions' tests.
 use crate::Neighbours;
 use base::min;
-use float::to_f64;
+use float::internal::to_f64;
 use frame::Point;
 use frame::Rgb;
 ghost use mathlib.Core.Path.{_≡_};

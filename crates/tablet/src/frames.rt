@@ -48,7 +48,7 @@ pub extern "C" fn tablet_lengths(
     if lengths.len() < 11 {
         return 3;
     }
-    let s = candidates::tests::smallest(w, h);
+    let s = candidates::internal::smallest(w, h);
     let means = fit::internal::sampled_cells(f);
     store_counts(
         lengths,

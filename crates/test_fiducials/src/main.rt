@@ -3,11 +3,11 @@
 // printed, and how to make both again.
 use base::min;
 use candidates::fiducial_candidates;
-use candidates::list::candidate_at;
+use candidates::internal::candidate_at;
 use fiducials::Places;
 use fiducials::detect_fiducials;
-use fiducials::quadrilateral::one_way;
-use fiducials::quadrilateral::too_small;
+use fiducials::internal::one_way;
+use fiducials::internal::too_small;
 use frame::FrameSpec;
 use frame::Point;
 use frame::Quad;

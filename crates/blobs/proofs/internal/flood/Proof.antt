@@ -22,7 +22,8 @@ use Rattle.blobs.proofs.internal.flood.Tie as tie
 -- as many turns are done as pixels are counted
 abbrev Inv-loop : tie.InvT-loop
 Inv-loop mask seen₀ waiting₀ w a blob₀ top₀ waited₀ seen waiting blob top waited =
-    (flooding seen (stackOf waiting top) blob waited ≡ turns (blob .area) (floodStep mask w) (flooding seen₀ (stackOf waiting₀ top₀) blob₀ waited₀)) × (length waiting ≡ length waiting₀)
+    (flooding seen (stackOf waiting top) blob waited ≡ turns (blob .area) (floodStep mask w) (flooding seen₀ (stackOf waiting₀ top₀) blob₀ waited₀))
+    × (length waiting ≡ length waiting₀)
 
 abbrev μ-loop : tie.MeasureT-loop
 μ-loop mask seen₀ waiting₀ w a blob₀ top₀ waited₀ seen waiting blob top waited = length mask - blob .area

@@ -52,10 +52,10 @@ use Rattle.candidates.specs.Ring.{candidateAt}
 use Rattle.candidates.specs.declared.Candidate.{Candidate}
 use Rattle.candidates.proofs.Candidate as T
 use Rattle.candidates.proofs.Candidate.Laws as T′
-use Rattle.candidates.proofs.list.candidate_at as flat
-use Rattle.candidates.proofs.list.candidate_at.Symbol as flat-def
-use Rattle.candidates.proofs.list.candidate_at.Symbol.{name as #candidates·list·candidate-at}
-use Rattle.candidates.proofs.list.candidate_at.Met as flat-thm
+use Rattle.candidates.proofs.internal.candidate_at as flat
+use Rattle.candidates.proofs.internal.candidate_at.Symbol as flat-def
+use Rattle.candidates.proofs.internal.candidate_at.Symbol.{name as #candidates·internal·candidate-at}
+use Rattle.candidates.proofs.internal.candidate_at.Met as flat-thm
 use Rattle.records.proofs.Sizes.{offset-fits}
 use Rattle.records.proofs.internal.store_candidate.Key.{name as #records·internal·store-candidate}
 use Rattle.records.proofs.internal.store_candidate as store
@@ -155,7 +155,7 @@ module _ {M : Type 1} (𝓤 : URA M) (H : Heap 𝓤) (A : Atoms 𝓤) (W : Given
       move ! (2 ∷ 3 ∷ []) $ fjoin ! $ move ! (2 ∷ 0 ∷ []) $ fjoin ! $ move ! (1 ∷ 0 ∷ []) $ fjoin ! $ frame ! $
       feqI ! (List Val) (vunit ∷ []) (vunit ∷ []) refl $ done !
 
-  module _ (C : Calls 𝓤 H) (Λ : Loops 𝓤 H) (fm : FmC 𝓤 H (W .laws) C) (known : Triple 𝓤 (C #candidates·list·candidate-at) (Flat 𝓤 H A mem run)) where
+  module _ (C : Calls 𝓤 H) (Λ : Loops 𝓤 H) (fm : FmC 𝓤 H (W .laws) C) (known : Triple 𝓤 (C #candidates·internal·candidate-at) (Flat 𝓤 H A mem run)) where
     walk : Room T.the-row (length ys) → Is (ShrSlice (named 1) κ₁ f64) c (v ∷ []) → Is (ShrSlice (named 2) κ₂ u32) n (w ∷ []) → i * 40 < 2 ^ 64 → i < length ys → Held-by
         → ent 𝓤 (onEntry 𝓤 H A store.signature κs (q, (q₁, (q₂, tt))) x at) (WpFn 𝓤 H C Λ code.function (sliceVal (b, o) (length ys) ∷ v ∷ w ∷ vint w64 i ∷ []) Post)
     walk room p p₂ fits within held =
@@ -204,7 +204,7 @@ module _ {M : Type 1} (𝓤 : URA M) (H : Heap 𝓤) (A : Atoms 𝓤) (W : Given
         keep ! (0 ∷ 1 ∷ 2 ∷ 4 ∷ 7 ∷ 5 ∷ 6 ∷ []) $ by ! (exits d e room))))))))))))))
 
 module _ {M : Type 1} (𝓤 : URA M) (H : Heap 𝓤) (A : Atoms 𝓤) (W : Given 𝓤 H A) (mem : Memory → SProp 𝓤) (run : Routine → Fun 𝓤) where
-  store-walks : (C : Calls 𝓤 H) (Λ : Loops 𝓤 H) → FmC 𝓤 H (W .laws) C → Triple 𝓤 (C #candidates·list·candidate-at) (Flat 𝓤 H A mem run)
+  store-walks : (C : Calls 𝓤 H) (Λ : Loops 𝓤 H) → FmC 𝓤 H (W .laws) C → Triple 𝓤 (C #candidates·internal·candidate-at) (Flat 𝓤 H A mem run)
       → Walks 𝓤 H A store.ended stayed (WpFn 𝓤 H C Λ code.function) (store.clauses 𝓤 H A mem run)
   store-walks C Λ fm known = walked 𝓤 H A store.ended stayed (store.clauses 𝓤 H A mem run) (WpFn 𝓤 H C Λ code.function)
       (λ κs. (slice-vals, (slice-vals, (slice-vals, (uint-vals w64, tt)))))
@@ -215,7 +215,7 @@ module _ {M : Type 1} (𝓤 : URA M) (H : Heap 𝓤) (A : Atoms 𝓤) (W : Given
       (are .0 .0 .1) (are .1 .0) (are .1 .1 .0) (offset-fits 40 (a .1 .1 .1 .0) (length (a .0 .now)) (i .0) (are .0 .0 .1 .1)) (i .0) (i .1, i .2)))
 
 store-meets : {M : Type 1} (𝓤 : URA M) (H : Heap 𝓤) (A : Atoms 𝓤) (W : Given 𝓤 H A) (mem : Memory → SProp 𝓤) (run : Routine → Fun 𝓤) (𝓣 : Tables 𝓤 H)
-    → Triple 𝓤 (𝓣 .C #candidates·list·candidate-at) (Flat 𝓤 H A mem run)
+    → Triple 𝓤 (𝓣 .C #candidates·internal·candidate-at) (Flat 𝓤 H A mem run)
     → Meets 𝓤 H A store.signature (WpFn 𝓤 H (𝓣 .C) (𝓣 .Λ) code.function) (store.spec 𝓤 H A mem run)
 store-meets 𝓤 H A W mem run 𝓣 known =
     walk-meets 𝓤 H A store.ended stayed W (
@@ -233,5 +233,5 @@ store-candidate-spec 𝓤 H 𝓜 𝓖 𝓡 =
     entered 𝓤 H (tripleOf 𝓤 H (𝓖 .A) store.signature (store.spec 𝓤 H (𝓖 .A) (𝓜 .mem) (𝓡 .run)))
     (tables 𝓤 H 𝓜 𝓡 code.env .C) (tables 𝓤 H 𝓜 𝓡 code.env .Λ) #records·internal·store-candidate code.function (code.unfolded 𝓤 H 𝓜 𝓡)
     (store-meets 𝓤 H (𝓖 .A) (givenOf 𝓤 H 𝓜 𝓖) (𝓜 .mem) (𝓡 .run) (tablesOf 𝓤 H 𝓜 (tables 𝓤 H 𝓜 𝓡 code.env))
-    (cited 𝓤 H (Flat 𝓤 H (𝓖 .A) (𝓜 .mem) (𝓡 .run)) 𝓜 𝓡 code.env #candidates·list·candidate-at flat-def.routine
-    code.calls-candidates·list·candidate-at (flat-thm.met 𝓤 H 𝓜 𝓖 𝓡)))
+    (cited 𝓤 H (Flat 𝓤 H (𝓖 .A) (𝓜 .mem) (𝓡 .run)) 𝓜 𝓡 code.env #candidates·internal·candidate-at flat-def.routine
+    code.calls-candidates·internal·candidate-at (flat-thm.met 𝓤 H 𝓜 𝓖 𝓡)))

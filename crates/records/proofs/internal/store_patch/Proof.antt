@@ -50,10 +50,10 @@ use Rattle.blobs.specs.Patches.{recordLength, patchAt}
 use Rattle.blobs.specs.declared.Blob.{Blob}
 use Rattle.blobs.proofs.Blob as T
 use Rattle.blobs.proofs.Blob.Laws as T′
-use Rattle.blobs.proofs.patch.blob_at as flat
-use Rattle.blobs.proofs.patch.blob_at.Symbol as flat-def
-use Rattle.blobs.proofs.patch.blob_at.Symbol.{name as #blobs·patch·blob-at}
-use Rattle.blobs.proofs.patch.blob_at.Met as flat-thm
+use Rattle.blobs.proofs.internal.blob_at as flat
+use Rattle.blobs.proofs.internal.blob_at.Symbol as flat-def
+use Rattle.blobs.proofs.internal.blob_at.Symbol.{name as #blobs·internal·blob-at}
+use Rattle.blobs.proofs.internal.blob_at.Met as flat-thm
 use Rattle.records.proofs.Sizes.{offset-fits}
 use Rattle.records.proofs.internal.store_patch.Key.{name as #records·internal·store-patch}
 use Rattle.records.proofs.internal.store_patch as store
@@ -134,7 +134,7 @@ module _ {M : Type 1} (𝓤 : URA M) (H : Heap 𝓤) (A : Atoms 𝓤) (W : Given
       move ! (1 ∷ 2 ∷ []) $ fjoin ! $ move ! (1 ∷ 0 ∷ []) $ fjoin ! $ frame ! $
       feqI ! (List Val) (vunit ∷ []) (vunit ∷ []) refl $ done !
 
-  module _ (C : Calls 𝓤 H) (Λ : Loops 𝓤 H) (fm : FmC 𝓤 H (W .laws) C) (known : Triple 𝓤 (C #blobs·patch·blob-at) (Flat 𝓤 H A mem run)) where
+  module _ (C : Calls 𝓤 H) (Λ : Loops 𝓤 H) (fm : FmC 𝓤 H (W .laws) C) (known : Triple 𝓤 (C #blobs·internal·blob-at) (Flat 𝓤 H A mem run)) where
     walk : Room T.the-row (length ys) → Is (ShrSlice (named 1) κ′ u64) s (v ∷ []) → j * 56 < 2 ^ 64 → j < length ys → recordLength * j + 6 < length (s .now)
         → ent 𝓤 (onEntry 𝓤 H A store.signature κs (q, (q′, tt)) x at) (WpFn 𝓤 H C Λ code.function (sliceVal (b, o) (length ys) ∷ v ∷ vint w64 j ∷ []) Post)
     walk room p fits within held =
@@ -178,7 +178,7 @@ module _ {M : Type 1} (𝓤 : URA M) (H : Heap 𝓤) (A : Atoms 𝓤) (W : Given
         keep ! (0 ∷ 1 ∷ 2 ∷ 4 ∷ 5 ∷ 6 ∷ []) $ by ! (exits d e room)))))))))))))
 
 module _ {M : Type 1} (𝓤 : URA M) (H : Heap 𝓤) (A : Atoms 𝓤) (W : Given 𝓤 H A) (mem : Memory → SProp 𝓤) (run : Routine → Fun 𝓤) where
-  store-walks : (C : Calls 𝓤 H) (Λ : Loops 𝓤 H) → FmC 𝓤 H (W .laws) C → Triple 𝓤 (C #blobs·patch·blob-at) (Flat 𝓤 H A mem run)
+  store-walks : (C : Calls 𝓤 H) (Λ : Loops 𝓤 H) → FmC 𝓤 H (W .laws) C → Triple 𝓤 (C #blobs·internal·blob-at) (Flat 𝓤 H A mem run)
       → Walks 𝓤 H A store.ended stayed (WpFn 𝓤 H C Λ code.function) (store.clauses 𝓤 H A mem run)
   store-walks C Λ fm known = walked 𝓤 H A store.ended stayed (store.clauses 𝓤 H A mem run) (WpFn 𝓤 H C Λ code.function)
       (λ κs. (slice-vals, (slice-vals, (uint-vals w64, tt)))) (λ κs. (mut-slice-tells (named 0) (κs .0) T.the-row, (shr-slice-tells (named 1) (κs .1 .0) u64, (uint-tells w64, tt))))
@@ -187,7 +187,7 @@ module _ {M : Type 1} (𝓤 : URA M) (H : Heap 𝓤) (A : Atoms 𝓤) (W : Given
       (are .0 .0 .1) (are .1 .0) (offset-fits 56 (a .1 .1 .0) (length (a .0 .now)) (i .0) (are .0 .0 .1 .1)) (i .0) (i .1)))
 
 store-meets : {M : Type 1} (𝓤 : URA M) (H : Heap 𝓤) (A : Atoms 𝓤) (W : Given 𝓤 H A) (mem : Memory → SProp 𝓤) (run : Routine → Fun 𝓤) (𝓣 : Tables 𝓤 H)
-    → Triple 𝓤 (𝓣 .C #blobs·patch·blob-at) (Flat 𝓤 H A mem run)
+    → Triple 𝓤 (𝓣 .C #blobs·internal·blob-at) (Flat 𝓤 H A mem run)
     → Meets 𝓤 H A store.signature (WpFn 𝓤 H (𝓣 .C) (𝓣 .Λ) code.function) (store.spec 𝓤 H A mem run)
 store-meets 𝓤 H A W mem run 𝓣 known =
     walk-meets 𝓤 H A store.ended stayed W (
@@ -202,5 +202,5 @@ store-patch-spec 𝓤 H 𝓜 𝓖 𝓡 =
     entered 𝓤 H (tripleOf 𝓤 H (𝓖 .A) store.signature (store.spec 𝓤 H (𝓖 .A) (𝓜 .mem) (𝓡 .run)))
     (tables 𝓤 H 𝓜 𝓡 code.env .C) (tables 𝓤 H 𝓜 𝓡 code.env .Λ) #records·internal·store-patch code.function (code.unfolded 𝓤 H 𝓜 𝓡)
     (store-meets 𝓤 H (𝓖 .A) (givenOf 𝓤 H 𝓜 𝓖) (𝓜 .mem) (𝓡 .run) (tablesOf 𝓤 H 𝓜 (tables 𝓤 H 𝓜 𝓡 code.env))
-    (cited 𝓤 H (Flat 𝓤 H (𝓖 .A) (𝓜 .mem) (𝓡 .run)) 𝓜 𝓡 code.env #blobs·patch·blob-at flat-def.routine code.calls-blobs·patch·blob-at
+    (cited 𝓤 H (Flat 𝓤 H (𝓖 .A) (𝓜 .mem) (𝓡 .run)) 𝓜 𝓡 code.env #blobs·internal·blob-at flat-def.routine code.calls-blobs·internal·blob-at
     (flat-thm.met 𝓤 H 𝓜 𝓖 𝓡)))
