@@ -32,6 +32,24 @@ static void guarded(const uint8_t *block, const uint64_t *lengths)
     for (size_t i = 0; i < GUARD; i++) assert(block[tablet_areas_size(lengths) + i] == 0xa5);
 }
 
+/* The page of the four candidates of the last look. None of their numbers is half of a decimal, so C's own rounding is the same. */
+static void paged(const struct tablet_areas *a)
+{
+    enum { LINES = 4, LEN = LINES * TABLET_PAGE_LINE_LEN };
+    char wanted[LEN + 1];
+    uint8_t page[LEN + GUARD];
+    for (int i = 0; i < LINES; i++) {
+        const double *c = a->candidates + TABLET_CANDIDATE_LEN * i;
+        char *line = wanted + TABLET_PAGE_LINE_LEN * i;
+        assert(snprintf(line, TABLET_PAGE_LINE_LEN + 1, "%4d %8.2f %8.2f %7.2f %5.3f\n", i + 1, c[0], c[1], c[3], c[2]) ==
+               TABLET_PAGE_LINE_LEN);
+    }
+    memset(page, 0xa5, sizeof page);
+    assert(tablet_areas_page(a, page, LEN - 1) == 12 && page[0] == 0xa5);
+    assert(tablet_areas_page(a, page, sizeof page) == 0 && memcmp(page, wanted, LEN) == 0);
+    for (size_t i = LEN; i < sizeof page; i++) assert(page[i] == 0xa5);
+}
+
 int main(void)
 {
     uint64_t lengths[TABLET_LENGTHS_LEN];
@@ -45,6 +63,7 @@ int main(void)
     uint8_t *first = lent(&a, lengths), *second = lent(&b, lengths);
     assert(tablet_areas_look(&a, SIDE, SIDE, FRAME) == 0);
     assert(a.counts[TABLET_CANDIDATES] == 4 && a.counts[TABLET_PATCHES] >= 4);
+    paged(&a);
     assert(tablet_areas_fit(&a, SIDE, SIDE, FRAME) == 0);
     assert(tablet_areas_rectify(&b, SIDE, SIDE, FRAME) == 0);
     assert(memcmp(a.fit, b.fit, sizeof a.fit) == 0 && memcmp(a.counts, b.counts, sizeof a.counts) == 0);

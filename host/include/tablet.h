@@ -13,6 +13,9 @@
  *    9  the corners do not turn one way, or the area is too small (the photographer)
  *   10  no homography (whoever hands in the points)
  *   11  tablet_inverse only: absolute determinant below 1e-12 (whoever hands in the matrix)
+ *   12  tablet_candidate_page only: the page is shorter than 37 bytes a candidate (the host)
+ *   13  tablet_candidate_page only: above 9,999 candidates, or a number negative, not finite or too wide (whoever hands in the
+ *       candidates)
  *
  * A slice is a pointer and then its number of entries (not bytes). A pointer must not be NULL, with 0 entries too, and must
  * be aligned for its type. No two slices of a call may overlap, unless both are const. Nothing is kept after a call.
@@ -24,7 +27,7 @@
  * its slices by the names below.
  *
  * Work areas may be longer than needed; what lies past the lengths that tablet_lengths gives is never written. Their contents
- * before a call change no answer. After acceptance, and after a refusal from 7 up, they hold
+ * before a call change no answer. After acceptance, and after a refusal by 7 to 10, they hold
  *    luma        the capture's luma, w * h
  *    integral    its integral image, (w + 1) * (h + 1)
  *    mask        1 where dark, else 0, w * h
@@ -33,7 +36,7 @@
  *    candidates  four numbers a candidate, in patch order: centre x, centre y, score, size
  *    blob_index  for each candidate its patch's place in patches, from 0
  * and waiting and means hold nothing of use: they are free. Records past the last are as they were. After a refusal by 1 to 6
- * no memory is changed, and after any refusal the canonical image is as it was.
+ * or 11 to 13 no memory is changed, and after any refusal the canonical image is as it was.
  *
  * Acceptance says that the answer is the one that the rules give for this capture. It does not say that the four rings are the
  * card's, nor which way up the card lies: README.md, "When not to trust a card". host/flatten/src/phase.rs has a sign of both
@@ -69,11 +72,12 @@ enum {
     TABLET_MARKER_NUMBERS_LEN = 3,
     TABLET_GRID_LEN = 2,
     TABLET_PATCH_LEN = 7, /* one record of patches */
-    TABLET_CANDIDATE_LEN = 4 /* one record of candidates */
+    TABLET_CANDIDATE_LEN = 4, /* one record of candidates */
+    TABLET_PAGE_LINE_LEN = 37 /* one line of a candidate page: 36 columns and a line feed */
 };
 
 /* Entries of the counts. tablet_fiducial_candidates fills the first three, tablet_detect_fiducials the first seven. They are
- * filled on acceptance and on a refusal from 7 up; then what there is not to tell is 0, and the grade TABLET_NO_GRADE. */
+ * filled on acceptance and on a refusal by 7 to 10; then what there is not to tell is 0, and the grade TABLET_NO_GRADE. */
 enum {
     TABLET_PATCHES = 0,
     TABLET_CANDIDATES = 1,
@@ -214,6 +218,13 @@ uint32_t tablet_bilinear(const uint8_t *capture, size_t capture_len, size_t w, s
 /* Root mean square distance of four points from four others. 3. a, b: TABLET_POINTS_LEN; result: one. */
 uint32_t tablet_rms_error(const double *a, size_t a_len, const double *b, size_t b_len, double *result, size_t result_len);
 
+/* The first count candidates as text, a line each: rank (from 1) in 4 columns, centre x in 8, centre y in 8, size in 7, score in 5,
+ * a blank between each two, a line feed. Numbers stand to the right; centres and size have two decimals and the score three: the
+ * exact amount, nearest, halves upward; -0 prints as 0. What then needs more columns is too wide. 3 (candidates), 12, 13.
+ * candidates: TABLET_CANDIDATE_LEN for each, as a look leaves them; page: TABLET_PAGE_LINE_LEN for each, and the rest of a longer
+ * one stays as it was. */
+uint32_t tablet_candidate_page(const double *candidates, size_t candidates_len, size_t count, uint8_t *page, size_t page_len);
+
 /* All slices of a look, of a fit and of rectify, for captures of one size and one frame. tablet_areas_lend fills it but for the
  * capture; the functions below then take it in the place of 26 arguments. */
 struct tablet_areas {
@@ -314,6 +325,12 @@ static inline uint32_t tablet_areas_look(struct tablet_areas *a, size_t w, size_
                                       a->waiting, a->waiting_len, a->patches, a->patches_len,
                                       a->candidates, a->candidates_len, a->blob_index, a->blob_index_len,
                                       a->counts, TABLET_LISTED_LEN);
+}
+
+/* tablet_candidate_page: all candidates of the last of these calls, which was accepted or refused by 7 to 10. */
+static inline uint32_t tablet_areas_page(const struct tablet_areas *a, uint8_t *page, size_t page_len)
+{
+    return tablet_candidate_page(a->candidates, a->candidates_len, (size_t)a->counts[TABLET_CANDIDATES], page, page_len);
 }
 
 #ifdef __cplusplus

@@ -25,6 +25,7 @@ use Rattle.fiducials.specs.Contracts.{Detection}
 use Rattle.frame.specs.declared.Quad.{Quad}
 use Rattle.fiducials.specs.declared.Places.{Places}
 use Rattle.geometry.specs.Contracts.{Warping}
+use Rattle.page.specs.Contracts.{Paging}
 use Rattle.geometry.specs.Warp.{warped}
 use Rattle.tablet.specs.Layouts.{fitOf}
 
@@ -38,6 +39,9 @@ verdict-is v n r g e = ap verdictOf (number-is v n r g e)
 
 pub stamping : (img : Image) (f : FrameSpec) (v : Verdict) (out : List ℕ) (r : ℕ) → r ≡ numberOf v → Stamping img f v out → Stamping img f (verdictOf r) out
 stamping img f v out r e s = record { given = verdict-is v _ r (s .given) e; accepted = s .accepted; refused = s .refused }
+
+pub paging : (c : List Float) (count : ℕ) (page page′ : List ℕ) (v : Verdict) (r : ℕ) → r ≡ numberOf v → Paging c count page page′ v → Paging c count page page′ (verdictOf r)
+paging c count page page′ v r e s = record { given = verdict-is v _ r (s .given) e; accepted = s .accepted; refused = s .refused }
 
 pub warping : (img : Image) (f : FrameSpec) (fit : List Float) (t : GeometryFit) (c c′ : List ℕ) (v : Verdict) (r : ℕ) → t ≡ fitOf fit → r
     ≡ numberOf v → Warping img f t c c′ v → Warping img f (fitOf fit) c c′ (verdictOf r)

@@ -1,4 +1,4 @@
--- What the words of a capture file say (host/driver/src/bin/captures.rs). Assumes nothing.
+-- What the words of a capture file say (host/comparison/src/bin/captures.rs). Assumes nothing.
 use Prim.Native.Nat.{ℕ, _≤_}
 use mathlib.Core.Path.{_≡_}
 use mathlib.Core.List.{List}

@@ -1,3 +1,2 @@
 -- Definitions that the contracts of this crate cite.
 pub mod Files
-pub mod Sums

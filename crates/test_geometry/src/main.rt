@@ -7,7 +7,6 @@
 //   5 to 55   a sample of every kind, 27 of them accepted
 mod file; // file.rt: a capture file
 mod print; // print.rt: an answer's lines
-mod sum; // sum.rt: checksums
 
 fn main() {
     answer_all(56);

@@ -1,6 +1,5 @@
 // An answer's lines, on standard output.
 use crate::file::Sizes;
-use crate::sum;
 use base::min;
 use fit::GeometryFit;
 use fit::Grade;
@@ -83,14 +82,14 @@ fn refusal(verdict: Verdict) -> u32 {
 // A word, and the sum of the first n bytes.
 fn first(word: &[u8], b: &[u8], n: usize) {
     let end = min(n, b.len());
-    let s = [sum::of_bytes(&b[..end])];
+    let s = [vectors::sum::of_bytes(&b[..end])];
     line(word, &s);
 }
 
 // The n patches and the k candidates.
 fn lists(patches: &[u64], n: usize, candidates: &[f64], blob_index: &[u32], k: usize) {
     let end = 7 * min(n, patches.len() / 7);
-    let records = [n as u64, sum::of_numbers(&patches[..end])];
+    let records = [n as u64, vectors::sum::of_numbers(&patches[..end])];
     line(b"patches", &records);
     let count = [k as u64];
     line(b"candidates", &count);

@@ -1,5 +1,6 @@
 // The functions that look at the whole capture, each with areas of its own. The number of waiting
 // pixels is not the original's, and is not printed.
+use super::print::all_bytes;
 use super::print::bytes;
 use super::print::floats;
 use super::print::shorts;
@@ -190,6 +191,7 @@ pub(crate) fn fiducial_candidates(capture: &[u8; 43008]) {
         &blob_index,
     );
     label_blobs(&mask);
+    candidate_page(&candidates);
 }
 
 // The patches of the mask that the call before left.
@@ -211,6 +213,13 @@ fn label_blobs(mask: &[u8; 14336]) {
     words(&counts, 0, 1);
     bytes(&seen, 112);
     words(&patches, 0, 14);
+}
+
+// The page of the candidates that the call before left, in an area that is longer.
+fn candidate_page(candidates: &[f64; 1799]) {
+    let mut page = [9u8; 224];
+    word(tablet::tablet_candidate_page(candidates, 4, &mut page) as u64);
+    all_bytes(&page);
 }
 
 // Entries of the areas by which each is known.

@@ -43,3 +43,10 @@ pub(crate) fn bytes(b: &[u8], n: usize)
         word(vectors::word(b, 16 * i));
     }
 }
+
+// All words of eight bytes.
+pub(crate) fn all_bytes(b: &[u8]) {
+    for i in 0..b.len() / 8 {
+        word(vectors::word(b, i));
+    }
+}

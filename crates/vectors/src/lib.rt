@@ -1,5 +1,7 @@
-// What the test programs share: 64-bit words read from a buffer, floats by their bit patterns, and
-// a word as a line of text. A pattern is IEEE 754's; all NaNs are written as one.
+// What the test programs share: 64-bit words read from a buffer, floats by their bit patterns, a
+// word as a line of text, and checksums. A pattern is IEEE 754's; all NaNs are written as one.
+pub mod sum; // sum.rt: checksums
+
 ghost use mathlib.Core.Path.{_≡_};
 ghost use Prim.Native.Nat.{_+_, _≤_, _<_};
 ghost use lib.ListN.{length, getD};

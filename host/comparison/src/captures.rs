@@ -2,7 +2,7 @@
 
 use crate::direct::graded;
 use crate::original::{self as o, Answer};
-use crate::{bits, Case, Memory};
+use crate::{bits, pages, Case, Memory};
 use flatten::ffi;
 use std::fmt::Debug;
 
@@ -34,7 +34,9 @@ fn looked(m: &Memory, counts: &[u64], a: &Answer) -> Result<(), String> {
     eq("number of candidates", k, look.candidates.len())?;
     each("candidates", &m.candidates[..4 * k], look.candidates.as_flattened(), bits)?;
     let places: Vec<u32> = look.places.iter().map(|&p| p as u32).collect();
-    each("places", &m.blob_index[..k], &places, |p| p)
+    each("places", &m.blob_index[..k], &places, |p| p)?;
+    // The candidates are the original's, so the page is that of its candidates.
+    pages::check(&m.candidates, k, 37 * k + 1).map_err(|e| format!("candidate_page: {e}"))
 }
 
 fn listed(ours: &[u64], count: u64, waited: u64, theirs: &[[u64; 7]]) -> Result<(), String> {
@@ -67,7 +69,7 @@ pub fn check(c: &Case) -> Result<u32, String> {
     let (mut areas, means, canonical) = m.lend();
     let number = ffi::rectify(&c.data, c.w, c.h, c.frame, &mut areas, means, canonical, &mut counts, &mut fit);
     eq("rectify", number, a.number)?;
-    if number == 0 || number >= 7 {
+    if matches!(number, 0 | 7..=10) {
         looked(&m, &counts, &a)?;
     }
     match &a.flat {

@@ -2,7 +2,7 @@
 //! untouched is compared byte by byte, and two runs must agree: the second has other garbage in areas of the smallest lengths.
 
 use crate::original;
-use crate::{kinds, sizes, Case, Memory};
+use crate::{kinds, pages, sizes, Case, Memory};
 use flatten::{ffi, Frame};
 use scene::Random;
 
@@ -21,6 +21,7 @@ pub enum Function {
     FitFor,
     Lengths,
     Bilinear,
+    CandidatePage,
 }
 
 const FUNCTIONS: &[Function] = &[
@@ -40,6 +41,7 @@ const FUNCTIONS: &[Function] = &[
     Function::FitFor,
     Function::Lengths,
     Function::Bilinear,
+    Function::CandidatePage,
 ];
 
 /// All that a call is handed.
@@ -51,8 +53,11 @@ struct Call {
     counts: Vec<u64>,
     numbers: Vec<f64>,
     colour: Vec<u8>,
-    /// A fit or points, handed in.
+    /// A fit, points or candidates, handed in.
     given: Vec<f64>,
+    /// How many candidates, and the page for them.
+    count: usize,
+    page: Vec<u8>,
 }
 
 /// Captures with the original's answers.
@@ -93,8 +98,8 @@ fn lowest(c: &Call, seen: u32) -> u32 {
     let capture_bad = sides_bad || case.data.len() != 3 * case.w * case.h;
     if frame_bad || sides_bad {
         // Sizes can only be worked out inside the limits.
-        let frame_counts = !matches!(c.function, Function::LabelBlobs | Function::Bilinear);
-        let sides_count = c.function != Function::MarkerCenters;
+        let frame_counts = !matches!(c.function, Function::LabelBlobs | Function::Bilinear | Function::CandidatePage);
+        let sides_count = !matches!(c.function, Function::MarkerCenters | Function::CandidatePage);
         if frame_bad && frame_counts {
             return 1;
         }
@@ -152,6 +157,7 @@ fn lowest(c: &Call, seen: u32) -> u32 {
         Function::FitFor => vec![(3, given < 8 || numbers < 13), (5, no_layout)],
         Function::Lengths => vec![(3, counts < 11)],
         Function::Bilinear => vec![(2, capture_bad), (3, c.colour.len() < 3)],
+        Function::CandidatePage => vec![(pages::text(&c.given, c.count, c.page.len()).err().unwrap_or(0), true)],
     };
     tests.iter().filter(|(_, holds)| *holds).map(|(n, _)| *n).min().unwrap_or(0)
 }
@@ -173,6 +179,7 @@ fn run(c: &mut Call) -> u32 {
         Function::FitFor => ffi::fit_for(w, h, f, &c.given, 0.01, &mut c.numbers),
         Function::Lengths => ffi::lengths(w, h, f, &mut c.counts),
         Function::Bilinear => ffi::bilinear(capture, w, h, 1.25, 0.75, &mut c.colour),
+        Function::CandidatePage => ffi::candidate_page(&c.given, c.count, &mut c.page),
     }
 }
 
@@ -183,6 +190,7 @@ struct Written {
     patches: usize,
     candidates: usize,
     means: usize,
+    page: usize,
 }
 
 /// How long an area is: mostly right, else one short, longer, or nothing.
@@ -203,6 +211,25 @@ fn exact(r: &mut Random, right: usize, wrong: f64) -> usize {
     } else {
         right
     }
+}
+
+/// Candidates, their count and the length of the page: few, the most that have ranks, or one more. Now and then the count is one
+/// that passes 2^64 times four or times 37, and what is left is little or nothing.
+fn page_call(r: &mut Random, wrong: f64) -> (Vec<f64>, usize, usize) {
+    let (count, wrong) = match r.below(25) {
+        0 => (r.one_of(&[9999, 10000]), 0.3),
+        n if n < 5 => (r.between(7, 12), wrong),
+        _ => (r.below(5), wrong),
+    };
+    let mut list = pages::list(r, count, [0.0; 2]);
+    if r.chance(2.0 * wrong) {
+        pages::spoil(r, &mut list);
+    }
+    let (list_len, page_len) = (length(r, list.len(), wrong), length(r, 37 * count, wrong));
+    // What lies past the count is not looked at.
+    list.resize(list_len, f64::NAN);
+    let far = [usize::MAX, 1 << 62, (1 << 62) + 1, 1 << 63, usize::MAX / 37 + 1];
+    (list, if r.chance(0.2 * wrong) { r.one_of(&far) } else { count }, page_len)
 }
 
 /// Most calls have nothing wrong or one thing; some have anything.
@@ -274,6 +301,10 @@ fn call(r: &mut Random, pool: &Pool) -> (Call, u32) {
     };
     let given_len = length(r, given.len(), wrong);
     given.resize(given_len, 0.25);
+    let (mut count, mut page_len) = (0, 0);
+    if function == Function::CandidatePage {
+        (given, count, page_len) = page_call(r, wrong);
+    }
     let c = Call {
         function,
         memory,
@@ -281,6 +312,8 @@ fn call(r: &mut Random, pool: &Pool) -> (Call, u32) {
         numbers: vec![0.0; length(r, numbers_len, wrong)],
         colour: vec![0; length(r, 3, wrong)],
         given,
+        count,
+        page: vec![0; page_len],
         case,
     };
     // A call that passes 1 to 6 has the original's answer to what it is now handed.
@@ -305,6 +338,10 @@ fn shorten(c: &mut Call) {
     m.candidates.truncate(4 * s.candidates);
     m.blob_index.truncate(s.candidates);
     m.means.truncate(s.means);
+    if c.function == Function::CandidatePage {
+        c.given.truncate(4 * c.count);
+        c.page.truncate(37 * c.count);
+    }
 }
 
 fn garbage(c: &mut Call, r: &mut Random) {
@@ -321,6 +358,7 @@ fn garbage(c: &mut Call, r: &mut Random) {
     c.counts.iter_mut().for_each(|v| *v = r.bits());
     c.numbers.iter_mut().for_each(|v| *v = f64::from_bits(r.bits()));
     c.colour.iter_mut().for_each(|v| *v = r.bits() as u8);
+    c.page.iter_mut().for_each(|v| *v = r.bits() as u8);
     if c.function != Function::LabelBlobs {
         c.memory.mask.iter_mut().for_each(|v| *v = r.bits() as u8);
     }
@@ -328,8 +366,8 @@ fn garbage(c: &mut Call, r: &mut Random) {
 
 /// What a function may write: each area's written entries, from 0. All else stays.
 fn written(c: &Call, number: u32) -> (Written, [usize; 3], usize) {
-    let nothing = Written { pixels: 0, integral: 0, patches: 0, candidates: 0, means: 0 };
-    if (1..=6).contains(&number) {
+    let nothing = Written { pixels: 0, integral: 0, patches: 0, candidates: 0, means: 0, page: 0 };
+    if matches!(number, 1..=6 | 12 | 13) {
         return (nothing, [0; 3], 0);
     }
     // A function that is not handed the frame, or the sides, can accept where they are outside their limits.
@@ -342,6 +380,7 @@ fn written(c: &Call, number: u32) -> (Written, [usize; 3], usize) {
         patches: 7 * listed(ffi::PATCHES),
         candidates: listed(ffi::CANDIDATES),
         means,
+        page: 0,
     };
     let accepted = |n: usize| if number == 0 { n } else { 0 };
     match c.function {
@@ -357,6 +396,7 @@ fn written(c: &Call, number: u32) -> (Written, [usize; 3], usize) {
         Function::Lengths => (nothing, [11, 0, 0], 0),
         Function::Bilinear => (nothing, [0, 0, 3], 0),
         Function::StampFiducials => (nothing, [0; 3], 0),
+        Function::CandidatePage => (Written { page: 37 * c.count, ..nothing }, [0; 3], 0),
     }
 }
 
@@ -385,6 +425,7 @@ fn untouched(before: &Call, after: &Call, number: u32) -> Result<(), String> {
     kept("counts", &before.counts, &after.counts, counts, |v| v)?;
     kept("numbers", &before.numbers, &after.numbers, numbers, f64::to_bits)?;
     kept("colour", &before.colour, &after.colour, colour, |v| v)?;
+    kept("page", &before.page, &after.page, w.page, |v| v)?;
     let stamped = before.function == Function::StampFiducials && number == 0;
     kept("capture", &before.case.data, &after.case.data, if stamped { before.case.data.len() } else { 0 }, |v| v)
 }
@@ -412,7 +453,28 @@ fn agree(x: &Call, y: &Call, number: u32) -> Result<(), String> {
     agreed("canonical image", &a.canonical, &b.canonical, canonical, |v| v)?;
     agreed("numbers", &x.numbers, &y.numbers, numbers, f64::to_bits)?;
     agreed("colour", &x.colour, &y.colour, colour, |v| v)?;
+    agreed("page", &x.page, &y.page, w.page, |v| v)?;
     agreed("capture", &x.case.data, &y.case.data, x.case.data.len(), |v| v)
+}
+
+/// What an accepted call of Lengths or CandidatePage wrote.
+fn answered(c: &Call) -> Result<(), String> {
+    match c.function {
+        Function::Lengths => {
+            let s = sizes(c.case.w, c.case.h, c.case.frame);
+            let n = s.pixels;
+            let all = [3 * n, n, s.integral, n, n, n, 7 * s.patches, 4 * s.candidates, s.candidates, s.means, s.canonical];
+            if c.counts[..11] != all.map(|v| v as u64) {
+                return Err(format!("lengths {:?}, they are {all:?}", &c.counts[..11]));
+            }
+        }
+        Function::CandidatePage => {
+            let text = pages::text(&c.given, c.count, c.page.len()).unwrap_or_default();
+            pages::same(&c.page, text.as_bytes())?
+        }
+        _ => {}
+    }
+    Ok(())
 }
 
 /// One call, by its seed: the function and the number that came, or what is wrong.
@@ -441,13 +503,8 @@ pub fn check(pool: &Pool, seed: u64) -> (Function, Result<u32, String>) {
             untouched(&before, c, *number)?;
         }
         agree(&first, &second, wanted)?;
-        if first.function == Function::Lengths && wanted == 0 {
-            let s = sizes(first.case.w, first.case.h, first.case.frame);
-            let n = s.pixels;
-            let all = [3 * n, n, s.integral, n, n, n, 7 * s.patches, 4 * s.candidates, s.candidates, s.means, s.canonical];
-            if first.counts[..11] != all.map(|v| v as u64) {
-                return Err(format!("lengths {:?}, they are {all:?}", &first.counts[..11]));
-            }
+        if wanted == 0 {
+            answered(&first)?;
         }
         Ok(wanted)
     })();

@@ -1,7 +1,8 @@
-//! Functions of numbers, compared one call at a time. A call is its name and 64-bit words, so that a file can hold it.
+//! Functions of numbers, compared one call at a time; the candidate page with a definition of its own (`pages`). A call is its
+//! name and 64-bit words, so that a file can hold it.
 
 use crate::original as o;
-use crate::{bits, sampled};
+use crate::{bits, pages, sampled};
 use flatten::{ffi, Frame};
 use lpcore::geometry as g;
 use lpcore::image::RgbImage;
@@ -27,6 +28,7 @@ pub const FUNCTIONS: &[Function] = &[
     ("grid_score", 10, |r| picture_call(r, true)),
     ("warp_with", 1, |r| picture_call(r, false)),
     ("stamp_fiducials", 1, stamp_call),
+    ("candidate_page", 100, pages::call),
 ];
 
 const SPECIAL: &[f64] = &[
@@ -298,6 +300,7 @@ pub fn check(name: &str, w: &[u64]) -> Result<(), String> {
             numbered(n, if g::stamp_fiducials(&mut img, &o::spec(f)) { 0 } else { 5 })?;
             bytes(&ours, &img.data)
         }
+        "candidate_page" => pages::check_words(w),
         _ => Err("there is no such function".into()),
     }
 }

@@ -5,6 +5,7 @@ pub mod damage;
 pub mod direct;
 pub mod kinds;
 pub mod original;
+pub mod pages;
 
 use flatten::Frame;
 

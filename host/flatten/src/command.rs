@@ -19,15 +19,17 @@ standard error.
   -o FILE                        write the card to FILE; where there is none FILE stays as it was
   --frame W,H,CELL,MARGIN        the card's description, default 848,636,10,106
   --report FILE                  write what was found as JSON, also where the capture is refused
-  --overlay FILE                 write the capture with candidates, corners and grid drawn in (P6), also after a refusal from 7 up
+  --overlay FILE                 write the capture with candidates, corners and grid drawn in (P6), also after a refusal by 7 to 10
+  --page FILE                    write the candidates as text, a line of 36 columns each: rank, centre x, centre y, size, score; also
+                                 after a refusal by 7 to 10
   --strict                       do not write a doubtful card
   --help, --version
 
 A card is doubtful where its score is below 60 and its phase, how far its edges lie off the cell borders, above 0.25 of a cell:
 it was laid by the rules, but perhaps by a wrong ring, or the wrong way up. A card that is not doubtful may still be upside down.
 
-Exit status: 0 accepted; 1 refused, with one line `refused N: why; what to do` on standard error; 2 bad usage, a bad picture or
-a file that cannot be read or written; 3 doubtful, with --strict.
+Exit status: 0 accepted; 1 refused, with one line `refused N: why; what to do` on standard error; 2 bad usage, a bad picture, a
+file that cannot be read or written, or more than 9999 candidates for a page; 3 doubtful, with --strict.
 ";
 
 pub const ACCEPTED: u8 = 0;
@@ -55,7 +57,7 @@ fn apart(o: &Options) -> Result<(), String> {
         None => Place::of_open(&io::stdin()),
     };
     known.extend(input.map(|place| ("the photograph", place)));
-    let outputs = [("the card", &o.card), ("the report", &o.report), ("the overlay", &o.overlay)];
+    let outputs = [("the card", &o.card), ("the report", &o.report), ("the overlay", &o.overlay), ("the page", &o.page)];
     for (what, path) in outputs {
         let place = match path {
             Some(path) => Place::of_path(path).map_err(|e| format!("{}: {e}", path.display()))?,
@@ -151,6 +153,12 @@ impl Results<'_> {
         self.put(&path.display().to_string(), files::write(path, bytes));
     }
 
+    /// A page that is refused is one that cannot be written: its file stays as it was.
+    fn page(&mut self, path: &Path, page: Result<Vec<u8>, Refusal>) {
+        let written = page.map_err(io::Error::other).and_then(|text| files::write(path, &text));
+        self.put(&path.display().to_string(), written);
+    }
+
     fn stdout(&mut self, bytes: &[u8]) {
         let mut out = io::stdout().lock();
         self.put("standard output", out.write_all(bytes).and_then(|()| out.flush()));
@@ -195,6 +203,9 @@ fn flatten(o: &Options, messages: &mut Messages) -> Result<u8, String> {
         let mut drawn = capture.data;
         overlay::draw(&mut drawn, &workspace, answer.as_ref().ok());
         results.file(path, &p6::bytes(capture.w, capture.h, &drawn));
+    }
+    if let Some(path) = o.page.as_ref().filter(|_| workspace.looked()) {
+        results.page(path, workspace.page());
     }
     Ok(match answer {
         Ok(card) => put_card(o, &mut results, &workspace, &card),

@@ -35,6 +35,9 @@ pub const POINTS_LEN: usize = 8;
 pub const MATRIX_LEN: usize = 9;
 pub const LENS_LEN: usize = 4;
 
+/// A line of the candidate page: 36 columns and a line feed.
+pub const PAGE_LINE_LEN: usize = 37;
+
 /// The work areas of a look at the picture, in the order of the C functions.
 pub struct Areas<'a> {
     pub luma: &'a mut [f32],
@@ -133,6 +136,9 @@ mod c {
         ) -> u32;
         pub fn tablet_rms_error(
             a: *const f64, a_len: usize, b: *const f64, b_len: usize, result: *mut f64, result_len: usize,
+        ) -> u32;
+        pub fn tablet_candidate_page(
+            candidates: *const f64, candidates_len: usize, count: usize, page: *mut u8, page_len: usize,
         ) -> u32;
     }
 }
@@ -334,4 +340,9 @@ pub fn bilinear(capture: &[u8], w: usize, h: usize, x: f64, y: f64, colour: &mut
 pub fn rms_error(a: &[f64], b: &[f64], result: &mut [f64]) -> u32 {
     // SAFETY: each slice goes with its own length; the result is borrowed apart from both point lists, which are only read.
     unsafe { c::tablet_rms_error(a.as_ptr(), a.len(), b.as_ptr(), b.len(), result.as_mut_ptr(), result.len()) }
+}
+
+pub fn candidate_page(candidates: &[f64], count: usize, page: &mut [u8]) -> u32 {
+    // SAFETY: both slices go with their own lengths, and the page is borrowed apart from the candidates.
+    unsafe { c::tablet_candidate_page(candidates.as_ptr(), candidates.len(), count, page.as_mut_ptr(), page.len()) }
 }

@@ -13,6 +13,7 @@ pub struct Options {
     pub frame: Frame,
     pub report: Option<PathBuf>,
     pub overlay: Option<PathBuf>,
+    pub page: Option<PathBuf>,
     /// A doubtful card is not written.
     pub strict: bool,
 }
@@ -26,7 +27,8 @@ pub enum Action {
 
 pub fn parse(args: impl IntoIterator<Item = OsString>) -> Result<Action, String> {
     let mut args = args.into_iter();
-    let (mut input, mut card, mut frame, mut report, mut overlay) = (None, None, None, None, None);
+    let (mut input, mut card, mut frame) = (None, None, None);
+    let (mut report, mut overlay, mut page) = (None, None, None);
     let mut strict = false;
     let mut only_files = false;
     while let Some(arg) = args.next() {
@@ -38,8 +40,9 @@ pub fn parse(args: impl IntoIterator<Item = OsString>) -> Result<Action, String>
         let mut value = || joined.clone().or_else(|| args.next()).ok_or(format!("{option} wants a value"));
         match option.as_str() {
             "-o" => put(&mut card, value()?, "-o a second time")?,
-            "--report" => put(&mut report, file(value()?, "--report")?, "--report a second time")?,
-            "--overlay" => put(&mut overlay, file(value()?, "--overlay")?, "--overlay a second time")?,
+            "--report" => put_file(&mut report, value()?, &option)?,
+            "--overlay" => put_file(&mut overlay, value()?, &option)?,
+            "--page" => put_file(&mut page, value()?, &option)?,
             "--frame" => {
                 let text = value()?.to_string_lossy().into_owned();
                 let parsed = text.parse().map_err(|e| format!("--frame {text}: {e}"))?;
@@ -61,8 +64,9 @@ pub fn parse(args: impl IntoIterator<Item = OsString>) -> Result<Action, String>
         input: named(input),
         card: named(card),
         frame: frame.unwrap_or(Frame::BENCH),
-        report: report.map(PathBuf::from),
-        overlay: overlay.map(PathBuf::from),
+        report,
+        overlay,
+        page,
         strict,
     }))
 }
@@ -84,11 +88,11 @@ fn put<T>(place: &mut Option<T>, value: T, what: &str) -> Result<(), String> {
     }
 }
 
-fn file(value: OsString, option: &str) -> Result<OsString, String> {
+fn put_file(place: &mut Option<PathBuf>, value: OsString, option: &str) -> Result<(), String> {
     if value.is_empty() || value == "-" {
         return Err(format!("{option} wants the name of a file: standard output carries the card"));
     }
-    Ok(value)
+    put(place, value.into(), &format!("{option} a second time"))
 }
 
 /// A file's name as a shell takes it.
@@ -112,17 +116,17 @@ mod tests {
 
     #[test]
     fn all_options() {
-        let action = parsed(&["--frame", "192,192,1,48", "-o", "c", "--report=r", "--strict", "--overlay", "v", "in"]);
+        let action = parsed(&["--frame", "192,192,1,48", "-o", "c", "--report=r", "--strict", "--overlay", "v", "--page", "p", "in"]);
         let Ok(Action::Flatten(o)) = action else { panic!("{action:?}") };
         assert_eq!(o.frame, Frame { width: 192, height: 192, cell: 1, margin: 48 });
-        let names = [&o.input, &o.card, &o.report, &o.overlay].map(|p| p.as_ref().unwrap().to_str().unwrap());
-        assert_eq!(names, ["in", "c", "r", "v"]);
+        let names = [&o.input, &o.card, &o.report, &o.overlay, &o.page].map(|p| p.as_ref().unwrap().to_str().unwrap());
+        assert_eq!(names, ["in", "c", "r", "v", "p"]);
         assert!(o.strict);
     }
 
     #[test]
     fn defaults() {
-        let none = Options { input: None, card: None, frame: Frame::BENCH, report: None, overlay: None, strict: false };
+        let none = Options { input: None, card: None, frame: Frame::BENCH, report: None, overlay: None, page: None, strict: false };
         assert_eq!(parsed(&[]), Ok(Action::Flatten(none)));
         assert_eq!(parsed(&["-", "-o", "-"]), parsed(&[]));
         assert_eq!(parsed(&["--help", "--nonsense"]), Ok(Action::Help));
@@ -163,6 +167,9 @@ mod tests {
             (&["-o", "a", "-o", "b"], "-o a second time is too many"),
             (&["--report", "-"], "--report wants the name of a file"),
             (&["--overlay="], "--overlay wants the name of a file"),
+            (&["--page", "-"], "--page wants the name of a file"),
+            (&["--page"], "--page wants a value"),
+            (&["--page", "a", "--page=b"], "--page a second time is too many"),
         ] {
             let e = parsed(args).unwrap_err();
             assert!(e.contains(why), "{args:?}: {e}");

@@ -11,7 +11,7 @@ pub enum Responsible {
     Host,
     /// The photographer.
     Photographer,
-    /// Whoever hands in points or a matrix.
+    /// Whoever hands in points, a matrix or candidates.
     Points,
 }
 
@@ -33,15 +33,15 @@ impl Refusal {
         self.0
     }
 
-    /// From 7 up the picture was looked at, and patches and candidates are there to be read.
+    /// By 7 to 10 the picture was looked at, and patches and candidates are there to be read. Other numbers say nothing of a look.
     pub fn looked(self) -> bool {
-        self.0 >= 7
+        (7..=10).contains(&self.0)
     }
 
     pub fn responsible(self) -> Responsible {
         match self.0 {
             1 | 5 => Responsible::Frame,
-            2..=4 => Responsible::Host,
+            2..=4 | 12 => Responsible::Host,
             6..=9 => Responsible::Photographer,
             _ => Responsible::Points,
         }
@@ -61,6 +61,8 @@ impl Refusal {
             9 => "the four rings do not lie as the corners of a card, or span too little of the picture",
             10 => "no homography takes the card's markers to the four points",
             11 => "the matrix has no inverse: its determinant is too near 0",
+            12 => "the memory for the candidate page is shorter than 37 bytes a candidate",
+            13 => "there are more than 9999 candidates, or a number of theirs is negative, not finite or too wide for its columns",
             _ => "the library gives a number that this wrapper does not know",
         }
     }
@@ -85,6 +87,11 @@ impl Refusal {
             9 => "photograph again, nearer and straighter, with all four rings in the picture",
             10 => "hand in four points of which no three lie on one line",
             11 => "hand in another matrix",
+            12 => "lend 37 bytes for each candidate",
+            13 => {
+                "hand in at most 9999 candidates, no number below 0, centres below 99999.995, sizes below 9999.995 and scores \
+                  below 9.9995"
+            }
             _ => "bring library and wrapper to the same version",
         }
     }
@@ -97,3 +104,28 @@ impl fmt::Display for Refusal {
 }
 
 impl std::error::Error for Refusal {}
+
+#[cfg(test)]
+mod tests {
+    use super::*;
+
+    #[test]
+    fn only_7_to_10_tell_of_a_look() {
+        let looked: Vec<u32> = (1..=20).filter(|&number| Refusal(number).looked()).collect();
+        assert_eq!(looked, [7, 8, 9, 10]);
+    }
+
+    #[test]
+    fn each_number_has_words_and_somebody() {
+        let all: Vec<Refusal> = (1..=13).map(Refusal).collect();
+        use Responsible::*;
+        let who = [Frame, Host, Host, Host, Frame, Photographer, Photographer, Photographer, Photographer, Points, Points, Host, Points];
+        assert_eq!(all.iter().map(|r| r.responsible()).collect::<Vec<_>>(), who);
+        for words in [Refusal::why, Refusal::remedy] {
+            let unknown = words(Refusal(14));
+            for (i, &r) in all.iter().enumerate() {
+                assert!(words(r) != unknown && all[..i].iter().all(|&other| words(other) != words(r)), "{r}");
+            }
+        }
+    }
+}

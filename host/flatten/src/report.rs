@@ -56,7 +56,7 @@ pub fn report(about: &About, workspace: Option<&Workspace>, answer: &Result<Rect
     let number = answer.err().map_or(0, Refusal::number);
     let looked = workspace.filter(|w| w.looked());
     let of_look = |f: &dyn Fn(&Workspace) -> String| looked.map_or(NULL.into(), f);
-    let of_search = |f: &dyn Fn(&Workspace) -> String| looked.filter(|_| number == 0 || number >= 10).map_or(NULL.into(), f);
+    let of_search = |f: &dyn Fn(&Workspace) -> String| looked.filter(|_| matches!(number, 0 | 10)).map_or(NULL.into(), f);
     let of_fit = |f: &dyn Fn(&Rectified) -> String| answer.as_ref().map_or(NULL.into(), f);
     let candidates = |w: &Workspace| {
         let each = w.candidates().map(|c| {

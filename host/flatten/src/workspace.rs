@@ -261,9 +261,9 @@ impl Workspace {
         &self.canonical
     }
 
-    /// The last call looked at its picture: it was accepted, or refused from 7 up.
+    /// The last call looked at its picture: it was accepted, or refused by 7 to 10.
     pub fn looked(&self) -> bool {
-        matches!(self.last, Some(number) if number == 0 || number >= 7)
+        self.last.is_some_and(|number| Refusal::check(number).err().is_none_or(Refusal::looked))
     }
 
     fn count(&self, i: usize) -> usize {
@@ -297,12 +297,21 @@ impl Workspace {
         })
     }
 
+    /// The last call's candidates as text for a printer, a line of 37 bytes each (tablet_candidate_page in host/include/tablet.h);
+    /// nothing where it did not look. Refused by 13 where there are more than 9,999.
+    pub fn page(&self) -> Result<Vec<u8>, Refusal> {
+        let count = self.count(ffi::CANDIDATES);
+        let mut page = vec![0; ffi::PAGE_LINE_LEN * count];
+        Refusal::check(ffi::candidate_page(&self.candidates, count, &mut page))?;
+        Ok(page)
+    }
+
     /// The most pixels that waited at once while patches were traced.
     pub fn waited(&self) -> usize {
         self.count(ffi::WAITED)
     }
 
-    /// Trials tried and homographies found by the last call, up to a refusal by 10 or more; 0 before.
+    /// Trials tried and homographies found by the last call where it was accepted or refused by 10; else 0.
     pub fn trials(&self) -> (usize, usize) {
         (self.count(ffi::TRIALS), self.count(ffi::HOMOGRAPHIES))
     }

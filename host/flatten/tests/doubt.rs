@@ -90,7 +90,7 @@ fn turned_and_mirrored_cards_are_doubtful() {
 
         // With --strict there is no card, and the rest as without.
         folder.put("card.ppm", "as it was");
-        let out = folder.sh("$F --strict --report r.json --overlay v.ppm -o card.ppm in.ppm");
+        let out = folder.sh("$F --strict --report r.json --overlay v.ppm --page p.txt -o card.ppm in.ppm");
         assert_eq!(out.status.code(), Some(3), "{i}");
         assert!(text(&out.stderr).contains("before a wheel is cut look at v.ppm"));
         assert!(text(&out.stderr).ends_with("flatten: the doubtful card is not written (--strict)\n"));
@@ -103,10 +103,11 @@ fn turned_and_mirrored_cards_are_doubtful() {
         let mut ws = Workspace::new(wrong.w, wrong.h, Frame::BENCH).unwrap();
         let r = ws.rectify(&wrong.data).unwrap();
         assert!(r.doubtful());
+        assert_eq!(folder.get("p.txt"), ws.page().unwrap());
         let fields = format!("\"refusal\": 0, \"score\": {:?}, \"phase\": {:?}, \"doubtful\": true, ", r.score().unwrap(), r.phase);
         assert!(folder.text("r.json").contains(&fields), "{}", folder.text("r.json"));
     }
-    assert_eq!(folder.names(), ["card.ppm", "in.ppm", "r.json", "v.ppm"]);
+    assert_eq!(folder.names(), ["card.ppm", "in.ppm", "p.txt", "r.json", "v.ppm"]);
 }
 
 /// The advice at 7 and 8: the card's rings are whole at each of these angles.

@@ -38,7 +38,7 @@ fn no_output_is_the_photograph() {
     fs::hard_link(folder.file("a.ppm"), folder.file("hard.ppm")).unwrap();
     fs::create_dir(folder.file("sub")).unwrap();
     for name in ["a.ppm", "./a.ppm", "sub/../a.ppm", "link.ppm", "link of link.ppm", "hard.ppm"] {
-        for (option, what) in [("-o", "the card"), ("--report", "the report"), ("--overlay", "the overlay")] {
+        for (option, what) in [("-o", "the card"), ("--report", "the report"), ("--overlay", "the overlay"), ("--page", "the page")] {
             for input in ["a.ppm", "link.ppm", "< a.ppm"] {
                 let out = folder.sh(&format!("$F -o other.ppm {option} '{name}' {input}").replace("-o other.ppm -o", "-o"));
                 said(&out, 2, &format!("flatten: {name} would be {what} and is the photograph: they need a file each\n"));
@@ -63,11 +63,16 @@ fn no_output_is_another_output() {
         ("-o old --report ./old in.ppm", "./old would be the report and is the card"),
         ("-o old --overlay hard in.ppm", "hard would be the overlay and is the card"),
         ("--report hard --overlay old -o c in.ppm", "old would be the overlay and is the report"),
+        ("--page hard -o old in.ppm", "hard would be the page and is the card"),
+        ("--page hard --report old -o c in.ppm", "hard would be the page and is the report"),
+        ("--page hard --overlay old -o c in.ppm", "hard would be the page and is the overlay"),
         // Not there yet, none of them.
         ("-o new --report new in.ppm", "new would be the report and is the card"),
         ("-o new --report sub/../new in.ppm", "sub/../new would be the report and is the card"),
         ("-o new --overlay 'link to new' in.ppm", "link to new would be the overlay and is the card"),
+        ("--overlay new --page 'link to new' in.ppm", "link to new would be the page and is the overlay"),
         ("--report old in.ppm >> old", "old would be the report and is the card"),
+        ("--page old in.ppm >> old", "old would be the page and is the card"),
         ("in.ppm >> old 2>&1; echo 2 >&2", ""),
     ] {
         let out = folder.sh(&format!("$F {args}"));
@@ -99,6 +104,9 @@ fn a_card_that_can_be_written_is_written() {
     let out = folder.sh("$F --frame 192,192,1,48 -o c4.ppm --report /dev/full --overlay /dev/full a.ppm");
     said(&out, 2, "flatten: /dev/full: No space left on device");
     assert_eq!(folder.get("c4.ppm"), whole);
+    let out = folder.sh("$F --frame 192,192,1,48 -o c5.ppm --page /dev/full a.ppm");
+    said(&out, 2, "flatten: /dev/full: No space left on device");
+    assert_eq!(folder.get("c5.ppm"), whole);
     // A refusal and bad usage keep their status.
     folder.put("white.ppm", p6(64, 64, &[255; 3 * 64 * 64]));
     assert_eq!(folder.sh("$F white.ppm 2> /dev/full").status.code(), Some(1));
@@ -142,15 +150,15 @@ fn a_device_is_written_straight() {
     assert_eq!((out.status.code(), folder.get("read")), (Some(0), flatten(&["--frame", FRAME], &small()).stdout));
 }
 
-/// All three outputs, over files that are there.
+/// All four outputs, over files that are there.
 fn overwrite(folder: &Folder) -> Output {
-    folder.sh("$F --frame 192,192,1,48 -o c --report r --overlay v a.ppm")
+    folder.sh("$F --frame 192,192,1,48 -o c --report r --overlay v --page p a.ppm")
 }
 
 #[test]
 fn overwriting_keeps_mode_and_owner() {
     let folder = with_photograph("mode");
-    for (name, mode) in [("c", 0o640), ("r", 0o666), ("v", 0o4755)] {
+    for (name, mode) in [("c", 0o640), ("r", 0o666), ("v", 0o4755), ("p", 0o600)] {
         folder.put(name, "old");
         fs::set_permissions(folder.file(name), Permissions::from_mode(mode)).unwrap();
     }
@@ -160,26 +168,29 @@ fn overwriting_keeps_mode_and_owner() {
     said(&overwrite(&folder), 0, "score");
     assert_ne!(folder.get("c"), b"old");
     assert_ne!(folder.get("v"), b"old");
+    assert_ne!(folder.get("p"), b"old");
     let mode = |name: &str| fs::metadata(folder.file(name)).unwrap().mode() & 0o7777;
-    assert_eq!(["c", "r", "v"].map(mode), [0o640, 0o666, 0o4755]);
+    assert_eq!(["c", "r", "v", "p"].map(mode), [0o640, 0o666, 0o4755, 0o600]);
     let owner = fs::metadata(folder.file("c")).unwrap();
     assert!(!given || (owner.uid(), owner.gid()) == (12345, 54321));
     // A new file has the mode that any new file has.
     folder.put("new", "");
     said(&folder.sh("$F --frame 192,192,1,48 -o fresh a.ppm"), 0, "score");
     assert_eq!(mode("fresh"), mode("new"));
-    assert_eq!(folder.names(), ["a.ppm", "c", "fresh", "new", "r", "v"]);
+    assert_eq!(folder.names(), ["a.ppm", "c", "fresh", "new", "p", "r", "v"]);
 }
 
 #[test]
 fn a_read_only_file_is_an_error() {
-    let folder = with_photograph("readonly");
-    folder.put("c", "as it was");
-    fs::set_permissions(folder.file("c"), Permissions::from_mode(0o444)).unwrap();
-    said(&overwrite(&folder), 2, "flatten: c: the file is read-only\n");
-    assert_eq!(folder.text("c"), "as it was");
-    // What can be written is.
-    assert_eq!(folder.names(), ["a.ppm", "c", "r", "v"]);
+    for name in ["c", "r", "v", "p"] {
+        let folder = with_photograph(&format!("readonly-{name}"));
+        folder.put(name, "as it was");
+        fs::set_permissions(folder.file(name), Permissions::from_mode(0o444)).unwrap();
+        said(&overwrite(&folder), 2, &format!("flatten: {name}: the file is read-only\n"));
+        assert_eq!(folder.text(name), "as it was");
+        // What can be written is.
+        assert_eq!(folder.names(), ["a.ppm", "c", "p", "r", "v"]);
+    }
 }
 
 #[test]
@@ -192,7 +203,7 @@ fn hard_links_all_see_it() {
     said(&overwrite(&folder), 0, "score");
     assert_eq!(folder.get("second"), flatten(&["--frame", FRAME], &small()).stdout);
     assert_eq!(fs::metadata(folder.file("c")).unwrap().ino(), inode);
-    assert_eq!(folder.names(), ["a.ppm", "c", "r", "second", "v"]);
+    assert_eq!(folder.names(), ["a.ppm", "c", "p", "r", "second", "v"]);
 }
 
 #[test]

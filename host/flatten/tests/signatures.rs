@@ -246,6 +246,7 @@ fn an_exchange_in_any_of_the_three_is_seen() {
         ("fn tablet_from_points(", "source: &[f64], target: &[f64]", "target: &[f64], source: &[f64]"),
         ("fn tablet_rms_error(", "fn tablet_rms_error", "fn tablet_error"),
         ("fn tablet_apply(", "matrix: &[f64]", "matrix: &mut [f64]"),
+        ("fn tablet_candidate_page(", "page: &mut [u8]", "page: &[u8]"),
     ] {
         assert!(seen(&edited(&f.rattle, place, old, new), &f.header, &f.ffi), "{place} of the library");
     }
@@ -254,6 +255,7 @@ fn an_exchange_in_any_of_the_three_is_seen() {
         ("tablet_undistort(", "double x, double y", "double y, double x"),
         ("tablet_lengths(", "uint64_t *lengths", "uint32_t *lengths"),
         ("uint32_t tablet_rms_error(", "tablet_rms_error", "tablet_error"),
+        ("tablet_candidate_page(", "size_t candidates_len, size_t count", "size_t count, size_t candidates_len"),
     ] {
         assert!(seen(&f.rattle, &edited(&f.header, place, old, new), &f.ffi), "{place} of the header");
     }
@@ -263,6 +265,7 @@ fn an_exchange_in_any_of_the_three_is_seen() {
         ("pub fn tablet_mat3_mul(", "a: *const f64, a_len", "b: *const f64, a_len"),
         ("c::tablet_grid(", "f.width, f.height", "f.height, f.width"),
         ("c::tablet_warp_with(", "canonical.as_mut_ptr(), canonical.len()", "canonical.as_mut_ptr(), fit.len()"),
+        ("c::tablet_candidate_page(", "candidates.len(), count", "count, candidates.len()"),
     ] {
         assert!(seen(&f.rattle, &f.header, &edited(&f.ffi, place, old, new)), "{place} of ffi");
     }

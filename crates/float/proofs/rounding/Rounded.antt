@@ -3,8 +3,8 @@ use mathlib.Core.Path.{_≡_, refl, sym, ap, _∙_, subst}
 use mathlib.Core.Logic.{inl, inr}
 use mathlib.Core.Bool.{Bool, true, false, not, cond}
 use Prim.Native.Nat.{ℕ, zero, suc, _+_, _-_, _*_, _/_, _%_, _^_, _≤_, _<_}
-use native.Mathlib.Nat.{le-trans, le-of-eq, le-of-lt, lt-of-lt-of-le, lt-of-le-of-lt, mul-assoc, mul-one, one-mul, mul-comm, mul-right-comm, add-mul, div-eq-of-lt}
-use native.Mathlib.Nat.{mod-eq-of-lt, pow-suc, eq-of-mul-eq-mul-right}
+use native.Mathlib.Nat.{le-trans, le-of-eq, le-of-lt, lt-of-lt-of-le, lt-of-le-of-lt, mul-assoc, mul-one, one-mul, mul-right-comm}
+use native.Mathlib.Nat.{mod-eq-of-lt, eq-of-mul-eq-mul-right}
 use native.Mathlib.Numerals.{add-one}
 use native.Mathlib.Omega.{arith}
 use lib.Dec.{T, leb, ltb, lit≤, lit<}
@@ -16,6 +16,7 @@ use lib.Ieee.Exact.{HasValue, round-exact}
 use lib.Ieee.Nearest.{div-same}
 use lib.Ieee.Back.{whole-unique}
 use Rattle.float.specs.Floats.{roundOf}
+use Rattle.float.proofs.Halves.{cross, double-pos, cut, nothing}
 use Rattle.float.proofs.Patterns.{shift, Value, read-own}
 
 -- ---- a rounded value, negated
@@ -36,24 +37,6 @@ pub round-neg : (f : Format) (n d : ℕ) → neg (round f false n d) ≡ round f
 round-neg f n d = ap neg (round-is f false n d) ∙ units-neg f _ _ ∙ sym (round-is f true n d)
 
 -- ---- `roundOf`, with x's value written in any way
-cross : (n e a c : ℕ) → n * c ≡ a * e → (n * 2 + e) * (c * 2) ≡ (a * 2 + c) * (e * 2)
-cross n e a c h =
-    add-mul (n * 2) e (c * 2)
-    ∙ sum (n * 2 * (c * 2)) (e * (c * 2)) (a * 2 * (e * 2)) (c * (e * 2)) (n * c) (a * e) (four n c) (four a e) h (swap e c)
-    ∙ sym (add-mul (a * 2) c (e * 2))
-  where
-    four : (x y : ℕ) → x * 2 * (y * 2) ≡ x * y * 4
-    four x y = sym (mul-assoc (x * 2) y 2) ∙ ap (λ (z : ℕ). z * 2) (mul-right-comm x 2 y) ∙ mul-assoc (x * y) 2 2
-
-    swap : (x y : ℕ) → x * (y * 2) ≡ y * (x * 2)
-    swap x y = sym (mul-assoc x y 2) ∙ ap (λ (z : ℕ). z * 2) (mul-comm x y) ∙ mul-assoc y x 2
-
-    sum : (p q r s u v : ℕ) → p ≡ u * 4 → r ≡ v * 4 → u ≡ v → q ≡ s → p + q ≡ r + s
-    sum p q r s u v h i j k = omega arith
-
-double-pos : (c : ℕ) → 0 < c → 0 < c * 2
-double-pos c h = omega arith
-
 rounded-at : (x : Float) (s : Bool) (a c : ℕ) → 0 < c → HasValue x s a c → roundOf x ≡ round binary64 s ((a * 2 + c) / (c * 2)) 1
 unfolding roundOf
 rounded-at nan s a c C h = absurd h
@@ -62,36 +45,6 @@ rounded-at (fin t m e) s a c C h =
     ap (λ (z : ℕ). round binary64 t z 1) (div-same (m * up e * 2 + down e) (down e * 2) (a * 2 + c) (c * 2) (double-pos (down e)
     (down-pos e)) (double-pos c C) (cross (m * up e) (down e) a c (h .1)))
     ∙ ap (λ (z : Bool). round binary64 z ((a * 2 + c) / (c * 2)) 1) (h .0)
-
--- ---- with a fraction: j + h is 1073
-cut : (d j h : ℕ) → j + h ≡ 1073 → (d * 2 ^ j * 2 + 2 ^ 1074) / (2 ^ 1074 * 2) ≡ (d + 2 ^ h) / 2 ^ suc h
-cut d j h e =
-    div-same (d * 2 ^ j * 2 + 2 ^ 1074) (2 ^ 1074 * 2) (d + 2 ^ h) (2 ^ suc h) (double-pos (2 ^ 1074) (pow-pos 1074)) (pow-pos (suc h))
-    (add-mul (d * 2 ^ j * 2) (2 ^ 1074) (2 ^ suc h)
-    ∙ join (d * 2 ^ j * 2 * 2 ^ suc h) (2 ^ 1074 * 2 ^ suc h) (d * (2 ^ 1074 * 2)) (2 ^ h * (2 ^ 1074 * 2)) left right
-    ∙ sym (add-mul d (2 ^ h) (2 ^ 1074 * 2)))
-  where
-    join : (p q r s : ℕ) → p ≡ r → q ≡ s → p + q ≡ r + s
-    join p q r s a b = omega arith
-
-    left : d * 2 ^ j * 2 * 2 ^ suc h ≡ d * (2 ^ 1074 * 2)
-    left = ap (λ (z : ℕ). z * 2 ^ suc h) (shift d j 1) ∙ shift d (j + 1) (suc h) ∙ ap (λ (z : ℕ). d * 2 ^ z) (go j h e)
-      where
-        go : (j h : ℕ) → j + h ≡ 1073 → j + 1 + suc h ≡ 1075
-        go j h e = omega arith
-
-    right : 2 ^ 1074 * 2 ^ suc h ≡ 2 ^ h * (2 ^ 1074 * 2)
-    right = ap (λ (z : ℕ). 2 ^ 1074 * z) (pow-suc 2 h) ∙ turn (2 ^ 1074) (2 ^ h)
-      where
-        turn : (p y : ℕ) → p * (y * 2) ≡ y * (p * 2)
-        turn p y = sym (mul-assoc p y 2) ∙ ap (λ (z : ℕ). z * 2) (mul-comm p y) ∙ mul-assoc y p 2
-
--- ---- below a half
-nothing : (a c : ℕ) → 0 < c → a * 2 < c → (a * 2 + c) / (c * 2) ≡ 0
-nothing a c C h = div-eq-of-lt (go a c h)
-  where
-    go : (a c : ℕ) → a * 2 < c → a * 2 + c < c * 2
-    go a c h = omega arith
 
 -- ---- whole: v * c / c
 whole-half : (v c : ℕ) → 0 < c → (v * c * 2 + c) / (c * 2) ≡ v

@@ -3,8 +3,9 @@
 // stdout again.
 //
 // stdin is the capture's bytes. stdout has the answers' words, one a line, in hexadecimal: each call's refusal number, and
-// then what it wrote. Of the areas some entries are printed, of bytes every sixteenth word of eight. The number of waiting
-// pixels is not the original's, and left out. The smallest lengths are those of docs/REQUIREMENTS.md, 3.1.
+// then what it wrote. Of the areas some entries are printed, of bytes every sixteenth word of eight, of the candidate page
+// all. The number of waiting pixels is not the original's, and left out. The smallest lengths are those of
+// docs/REQUIREMENTS.md, 3.1. The original has no candidate page: its text is made here, from the original's candidates.
 use lpcorepub::frame::FrameSpec;
 use lpcorepub::geometry::{
     adaptive_black_mask, bilinear, detect_fiducials, fiducial_candidates, fit_for, fit_geometry, grid_score, label_blobs, luma_plane,
@@ -116,6 +117,35 @@ fn graded(v: &mut Vectors, img: &RgbImage, f: &FrameSpec, fit: &GeometryFit) {
     }
 }
 
+// ---- the candidate page
+
+// A number to the right in its columns: the float's exact decimals, of which it has at most 1,074, rounded as text. What is
+// cut off begins with 5 or more from a half on, so halves go upward.
+fn field(x: f64, columns: usize, places: usize) -> String {
+    let exact = format!("{x:.1100}");
+    let end = exact.find('.').unwrap() + 1 + places;
+    let kept: u64 = exact[..end].replace('.', "").parse().unwrap();
+    let units = kept + (exact.as_bytes()[end] >= b'5') as u64;
+    let one = 10u64.pow(places as u32);
+    format!("{:>columns$}", format!("{}.{:0places$}", units / one, units % one))
+}
+
+// Four lines, and the rest of the area as it was.
+fn page(v: &mut Vectors, candidates: &[Candidate]) {
+    let mut area = String::new();
+    for (i, c) in candidates[..4].iter().enumerate() {
+        let [x, y] = c.center.map(|x| field(x, 8, 2));
+        area += &format!("{:4} {x} {y} {} {}\n", i + 1, field(c.size, 7, 2), field(c.score, 5, 3));
+    }
+    let mut area = area.into_bytes();
+    assert_eq!(area.len(), 4 * 37);
+    area.resize(224, 9);
+    v.word(0);
+    for chunk in area.chunks_exact(8) {
+        v.word(u64::from_le_bytes(chunk.try_into().unwrap()));
+    }
+}
+
 // ---- the calls
 
 // Number, counts, fit with its score: the same for rectify and fit_geometry.
@@ -156,6 +186,8 @@ fn pictures(v: &mut Vectors, img: &RgbImage, f: &FrameSpec) {
     for b in &l.patches[..2] {
         patch(v, b);
     }
+
+    page(v, &l.candidates);
 }
 
 fn fits(v: &mut Vectors, img: &RgbImage, f: &FrameSpec, points: &Points) -> GeometryFit {

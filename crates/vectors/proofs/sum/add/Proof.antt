@@ -1,9 +1,9 @@
--- `test_geometry::sum::add` meets its contract: a number may be taken modulo the prime first. Assumes nothing.
-use Rattle.test_geometry.specs.Sums.{added}
+-- `vectors::sum::add` meets its contract: a number may be taken modulo the prime first. Assumes nothing.
+use Rattle.vectors.specs.Sums.{added}
 use native.Mathlib.Omega.{arith}
 use borrow.Author.Needs.{needs}
-use Rattle.test_geometry.proofs.sum.add.Statement.{statement}
-use Rattle.test_geometry.proofs.sum.add.Tie as tie
+use Rattle.vectors.proofs.sum.add.Statement.{statement}
+use Rattle.vectors.proofs.sum.add.Tie as tie
 
 mul-result : tie.Need-mul-result
 mul-result c = search needs

@@ -1,7 +1,7 @@
-// Checksums.
+// Checksums, by which a long area is compared in a few digits.
 ghost use mathlib.Core.Path.{_≡_};
 ghost use Prim.Native.Nat.{_≤_, _<_};
-ghost use Rattle.test_geometry.specs.Sums.{prime, added, sumOf};
+ghost use Rattle.vectors.specs.Sums.{prime, added, sumOf};
 
 // The sum s with one number more.
 fn add(s: u64, n: u64) -> u64

@@ -1,5 +1,5 @@
--- `test_geometry::sum::of_numbers` meets its contract. Assumes nothing.
-use Rattle.test_geometry.specs.Sums.{prime, added, addAt, sumOf}
+-- `vectors::sum::of_numbers` meets its contract. Assumes nothing.
+use Rattle.vectors.specs.Sums.{prime, added, addAt, sumOf}
 use Rattle.base.proofs.Turns.{turns-begin, turns-step, turns-end}
 use Rattle.base.specs.Loops.{turns}
 use borrow.Author.Needs.{needs}
@@ -7,8 +7,8 @@ use native.Mathlib.Omega.{arith}
 use Prim.Native.Nat.{_≤_, _<_, _-_}
 use mathlib.Core.Path.{_≡_, _∙_}
 use lib.ListN.{length, getD}
-use Rattle.test_geometry.proofs.sum.of_numbers.Statement.{statement}
-use Rattle.test_geometry.proofs.sum.of_numbers.Tie as tie
+use Rattle.vectors.proofs.sum.of_numbers.Statement.{statement}
+use Rattle.vectors.proofs.sum.of_numbers.Tie as tie
 
 abbrev Inv-loop : tie.InvT-loop
 Inv-loop b s₀ i₀ i-end s i = (s ≡ turns i (addAt b) 0) × (s < prime) × (i ≤ length b)

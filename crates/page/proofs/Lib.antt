@@ -1,0 +1,8 @@
+-- Laws of several functions' proofs, and the theorems of specs/Meaning.
+mod Amounts
+pub mod Meaning
+mod Over
+mod Printing
+mod Refusing
+pub mod Spelling
+pub mod Texts
