@@ -4,11 +4,12 @@ use mathlib.Core.Bool.{true, not, _&&_, true≢false}
 use mathlib.Core.Logic.{⊎-elim}
 use mathlib.Core.List.{List, _++_}
 use Prim.Native.Nat.{ℕ, zero, suc, _+_, _*_, _/_, _≤_, _<_}
-use native.Mathlib.Nat.{div-mul-le-self, lt-div-mul-add, div-eq-of-lt-le, mul-assoc, mul-comm, add-mul, one-mul}
+use native.Mathlib.Nat.{div-mul-le-self, lt-div-mul-add, div-eq-of-lt-le, mul-assoc, mul-comm, add-mul, one-mul, zero-mul}
 use native.Mathlib.Omega.{arith}
-use borrow.Author.Tests.{leb-true}
+use borrow.Author.Tests.{leb-true, le-leb}
 use lib.Dec.{leb}
-use lib.Ieee.{Float, nan, inf, fin, up, down, lt}
+use lib.IntN.{pos}
+use lib.Ieee.{Float, nan, inf, fin, up, down, lt, ofInt}
 use lib.Ieee.Fits.{down-pos}
 use lib.ListN.{take, drop, length-drop}
 use lib.Seq.{drop-append-le, drop-at, take-append-le, take-all}
@@ -21,7 +22,7 @@ use Rattle.frame.proofs.Lowest.{lowest-of}
 use Rattle.page.specs.Amounts.{unitsOf, finite, widest, printable}
 use Rattle.page.specs.Text.{whole, fieldOf, lineLength, lineOf, rowAt, pageText}
 use Rattle.page.specs.Contracts.{rowPrintable, everyPrintable, pageTests}
-use Rattle.page.specs.Meaning.{AmountIs, SpellsAmount, LineSpelled, LineLong, PageLong, LinesAre, EachPrintable, LowestGiven}
+use Rattle.page.specs.Meaning.{AmountIs, MinusZeroIs, SpellsAmount, LineSpelled, LineLong, PageLong, LinesAre, EachPrintable, LowestGiven}
 use Rattle.page.proofs.Spelling.{whole-spelled, parts-spelled}
 use Rattle.page.proofs.Texts.{line-length, page-length}
 
@@ -61,6 +62,14 @@ amount-is d (fin s m e) h q = (
   ),
   λ k. only (m * up e) (down e) d (down-pos e) q (k .0) (k .1),
 )
+
+zero-units : (d : ℕ) → unitsOf d (fin true 0 (pos 0)) ≡ 0
+unfolding unitsOf
+zero-units d = ap (λ z. (z * 2 + 1) / 2) (zero-mul d)
+
+pub minus-zero-is : MinusZeroIs
+unfolding printable finite lt ofInt
+minus-zero-is d most = (ap (λ q. leb q most) (zero-units d) ∙ le-leb 0 most (omega arith), zero-units d)
 
 -- ---- a printable number is spelled in its columns
 printed : (d width places : ℕ) (x : Float) → places + 2 ≤ width → printable d (widest width) x ≡ true

@@ -35,7 +35,7 @@ pageTests c count page =
     ∷ check 13 (ltb 9999 count || not (everyPrintable c count))
     ∷ []
 
--- `candidate_page`: the page area becomes page′
+-- [17.1] `candidate_page`: the page area becomes page′
 pub record Paging (c : List Float) (count : ℕ) (page page′ : List ℕ) (v : Verdict) : Type 0 where
   pub given : v ≡ verdictOf (lowestOf (pageTests c count page))
   -- [17.6] a longer area keeps its rest

@@ -5,10 +5,11 @@ use mathlib.Core.Path.{_≡_}
 use mathlib.Core.Bool.{true}
 use mathlib.Core.Logic.{_↔_}
 use mathlib.Core.List.{List, [], _∷_, _++_}
+use lib.IntN.{pos}
 use lib.ListN.{length, getD, take, drop, replicate}
 use lib.Ieee.{Float, nan, inf, fin, up, down}
 use Rattle.frame.specs.Refusals.{Lowest, Tested, lowestOf}
-use Rattle.page.specs.Amounts.{unitsOf, finite, widest}
+use Rattle.page.specs.Amounts.{unitsOf, finite, widest, printable}
 use Rattle.page.specs.Text.{blank, point, feed, whole, fieldOf, lineLength, lineOf, rowAt, pageText}
 use Rattle.page.specs.Contracts.{rowPrintable, everyPrintable, pageTests}
 use Rattle.page.specs.declared.Row.{Row}
@@ -25,6 +26,11 @@ NearestUp d (fin s m e) q =
 -- [17.4] the float's exact amount, nearest, halves upward: q is printed exactly when it is that number
 abbrev pub AmountIs : Type 0
 AmountIs = (d : ℕ) (x : Float) → finite x ≡ true → (q : ℕ) → (q ≡ unitsOf d x) ↔ NearestUp d x q
+
+-- [17.4] −0 prints as 0: it is not negative, and its amount is 0
+abbrev pub MinusZeroIs : Type 0
+MinusZeroIs =
+    (d most : ℕ) → (printable d most (fin true 0 (pos 0)) ≡ true) × (unitsOf d (fin true 0 (pos 0)) ≡ 0)
 
 -- ---- spelling
 
