@@ -7,7 +7,7 @@ use native.Mathlib.Nat.{mul-assoc, mul-right-comm, mul-le-mul-right, mul-one, le
 use native.Mathlib.Omega.{arith}
 use borrow.Author.Tests.{leb-true, ltb-true, ltb-false, lt-leb}
 use lib.Dec.{leb}
-use lib.IntN.{ℤ}
+use lib.IntN.{ℤ, pos}
 use lib.Ieee.{Float, nan, inf, fin, up, down, lt, ofInt, round}
 use lib.Ieee.Fits.{down-pos}
 use Rattle.base.proofs.Arith.{le-or-lt}
@@ -17,6 +17,10 @@ use Rattle.float.proofs.Halves.{double-pos}
 use Rattle.page.specs.Amounts.{unitsOf, finite, printable}
 use Rattle.page.specs.Steps.{Narrow}
 use Rattle.page.specs.Steps.Narrow.{narrow}
+
+-- 100000, as a float: 3125 · 2^5
+abbrev limit : Float
+limit = fin false 3125 (pos 5)
 
 -- ---- from 100000 on an amount is too wide
 wide : (m : ℕ) (e : ℤ) (d : ℕ) → 100000 * down e ≤ m * up e → 100000 * d ≤ (m * up e * d * 2 + down e) / (down e * 2)
@@ -41,7 +45,7 @@ module _ (d most : ℕ) (W : most < 100000 * d) where
       (le-or-lt (100000 * down e) (m * up e))
 
   -- what is not below 100000 cannot be printed
-  pub not-narrow : (x : Float) → lt x (fin false 3125 (lib.IntN.pos 5)) ≡ false → false ≡ printable d most x
+  pub not-narrow : (x : Float) → lt x limit ≡ false → false ≡ printable d most x
   unfolding printable finite unitsOf lt
   not-narrow nan h = refl
   not-narrow (inf s) h = refl
@@ -63,7 +67,7 @@ unfolding printable
 not-negative d most x h = sym (not-first (leb (unitsOf d x) most) (not-second (finite x) (ap not h)))
 
 -- between the two the amount decides
-pub narrow-below : (x : Float) → lt x (f64 0) ≡ false → lt x (fin false 3125 (lib.IntN.pos 5)) ≡ true → Narrow x
+pub narrow-below : (x : Float) → lt x (f64 0) ≡ false → lt x limit ≡ true → Narrow x
 unfolding lt ofInt round
 narrow-below nan h k = absurd (true≢false (sym k))
 narrow-below (inf true) h k = absurd (true≢false h)

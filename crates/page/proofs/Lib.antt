@@ -5,4 +5,4 @@ mod Over
 mod Printing
 mod Refusing
 pub mod Spelling
-pub mod Texts
+mod Texts

@@ -23,6 +23,7 @@ use Rattle.page.specs.Amounts.{unitsOf, finite, widest, printable}
 use Rattle.page.specs.Text.{whole, fieldOf, lineLength, lineOf, rowAt, pageText}
 use Rattle.page.specs.Contracts.{rowPrintable, everyPrintable, pageTests}
 use Rattle.page.specs.Meaning.{AmountIs, MinusZeroIs, SpellsAmount, LineSpelled, LineLong, PageLong, LinesAre, EachPrintable, LowestGiven}
+use Rattle.page.proofs.Printing.{each-of}
 use Rattle.page.proofs.Spelling.{whole-spelled, parts-spelled}
 use Rattle.page.proofs.Texts.{line-length, page-length}
 
@@ -84,14 +85,9 @@ printed d width places x h p =
     }
 
 pub line-spelled : LineSpelled
-unfolding lineOf rowPrintable
+unfolding lineOf
 line-spelled rank r h p =
-    let a = printable 100 (widest 8) (r .x) in
-    let b = printable 100 (widest 8) (r .y) in
-    let s = printable 100 (widest 7) (r .size) in
-    let t = printable 1000 (widest 5) (r .score) in
-    let abs : a && b && s ≡ true = and-left (a && b && s) t p in
-    let ab : a && b ≡ true = and-left (a && b) s abs in
+    let e = each-of r p in
     record {
       rank-text = whole 4 rank;
       x-text = fieldOf 8 2 (unitsOf 100 (r .x));
@@ -100,10 +96,10 @@ line-spelled rank r h p =
       score-text = fieldOf 5 3 (unitsOf 1000 (r .score));
       text = refl;
       rank-spelled = whole-spelled 4 rank (omega arith) (omega arith);
-      x-spelled = printed 100 8 2 (r .x) (omega arith) (and-left a b ab);
-      y-spelled = printed 100 8 2 (r .y) (omega arith) (and-right a b ab);
-      size-spelled = printed 100 7 2 (r .size) (omega arith) (and-right (a && b) s abs);
-      score-spelled = printed 1000 5 3 (r .score) (omega arith) (and-right (a && b && s) t p);
+      x-spelled = printed 100 8 2 (r .x) (omega arith) (e .x);
+      y-spelled = printed 100 8 2 (r .y) (omega arith) (e .y);
+      size-spelled = printed 100 7 2 (r .size) (omega arith) (e .size);
+      score-spelled = printed 1000 5 3 (r .score) (omega arith) (e .score);
     }
 
 -- ---- lines

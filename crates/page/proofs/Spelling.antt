@@ -1,6 +1,6 @@
 -- Numbers in columns can be read back. Assumes nothing.
 use mathlib.Core.Path.{_≡_, refl, sym, ap, _∙_, subst}
-use mathlib.Core.List.{List, [], _∷_, _++_, append-assoc}
+use mathlib.Core.List.{List, [], _∷_, _++_, append-assoc, append-nil}
 use Prim.Native.Nat.{ℕ, zero, suc, _+_, _-_, _*_, _/_, _^_, _≤_, _<_}
 use native.Mathlib.Nat.{div-div-eq-div-mul, div-lt-iff-lt-mul, pow-suc, pow-succ', lt-of-lt-of-le, le-of-eq, one-le-pow}
 use native.Mathlib.Numerals.{add-one}
@@ -51,13 +51,27 @@ columns-value (suc n) q =
 abbrev NoZero : List ℕ → Type 0
 NoZero d = (x : ℕ) (l : List ℕ) → d ≡ x ∷ l → x ≡ 48 → ⊥
 
-record Led (q : ℕ) (t : List ℕ) : Type 0 where
+record Padded (q : ℕ) (t : List ℕ) : Type 0 where
   blanks : ℕ
   digits : List ℕ
   text : t ≡ replicate blanks blank ++ digits
   all-digits : AllDigits digits
-  first : NoZero digits
   value : readAfter 0 digits ≡ q
+
+record Led (q : ℕ) (t : List ℕ) : Type 0 where
+  padded : Padded q t
+  first : NoZero (padded .digits)
+
+-- one digit more, a zero too
+padded-more : (q : ℕ) (t : List ℕ) → Padded (q / 10) t → Padded q (t ++ (digit q ∷ []))
+padded-more q t r =
+    record {
+      blanks = r .blanks;
+      digits = r .digits ++ (digit q ∷ []);
+      text = ap (λ z. z ++ (digit q ∷ [])) (r .text) ∙ append-assoc (replicate (r .blanks) blank) (r .digits) (digit q ∷ []);
+      all-digits = digits-more (r .digits) (digit q) (r .all-digits) (digit-low q) (digit-high q);
+      value = read-more 0 (r .digits) (digit q) ∙ ap (λ z. z * 10 + (digit q - 48)) (r .value) ∙ digit-value q;
+    }
 
 all-blank : (n : ℕ) → columns leading n 0 ≡ replicate n blank
 unfolding columns
@@ -67,23 +81,22 @@ all-blank (suc n) = ap (λ z. z ++ (blank ∷ [])) (all-blank n) ∙ replicate-a
 led-none : (n q : ℕ) → q ≡ 0 → Led q (columns leading n q)
 led-none n q e =
     record {
-      blanks = n;
-      digits = [];
-      text = ap (columns leading n) e ∙ all-blank n ∙ sym (mathlib.Core.List.append-nil (replicate n blank));
-      all-digits = tt;
+      padded = record {
+        blanks = n;
+        digits = [];
+        text = ap (columns leading n) e ∙ all-blank n ∙ sym (append-nil (replicate n blank));
+        all-digits = tt;
+        value = sym e;
+      };
       first = λ x l h. (let z : _≡_ {A = ℕ} 0 1 = cc in λ k. omega arith);
-      value = sym e;
     }
 
 led-more : (q : ℕ) (t : List ℕ) → 0 < q → Led (q / 10) t → Led q (t ++ (digit q ∷ []))
+unfolding padded-more
 led-more q t h r =
     record {
-      blanks = r .blanks;
-      digits = r .digits ++ (digit q ∷ []);
-      text = ap (λ z. z ++ (digit q ∷ [])) (r .text) ∙ append-assoc (replicate (r .blanks) blank) (r .digits) (digit q ∷ []);
-      all-digits = digits-more (r .digits) (digit q) (r .all-digits) (digit-low q) (digit-high q);
-      first = go (r .digits) (r .first) (r .value);
-      value = read-more 0 (r .digits) (digit q) ∙ ap (λ z. z * 10 + (digit q - 48)) (r .value) ∙ digit-value q;
+      padded = padded-more q t (r .padded);
+      first = go (r .padded .digits) (r .first) (r .padded .value);
     }
   where
     go : (d : List ℕ) → NoZero d → readAfter 0 d ≡ q / 10 → NoZero (d ++ (digit q ∷ []))
@@ -104,18 +117,21 @@ led (suc n) q h = go q h (led n (q / 10) (div-lt-iff-lt-mul (omega arith) .1 (lt
 
 -- ---- whole numbers
 pub whole-spelled : WholeSpelled
-unfolding whole
+unfolding whole padded-more
 whole-spelled n q l h =
-    let r = led (n - 1) (q / 10) (div-lt-iff-lt-mul (omega arith) .1 (lt-of-lt-of-le h (le-of-eq (ap (λ k. 10 ^ k) (sym (last n l)) ∙ pow-suc 10 (n - 1))))) in
+    let r =
+    led (n - 1) (q / 10)
+    (div-lt-iff-lt-mul (omega arith) .1 (lt-of-lt-of-le h (le-of-eq (ap (λ k. 10 ^ k) (sym (last n l)) ∙ pow-suc 10 (n - 1))))) in
+    let p = padded-more q (columns leading (n - 1) (q / 10)) (r .padded) in
     record {
-      blanks = r .blanks;
-      digits = r .digits ++ (digit q ∷ []);
-      text = ap (λ z. z ++ (digit q ∷ [])) (r .text) ∙ append-assoc (replicate (r .blanks) blank) (r .digits) (digit q ∷ []);
+      blanks = p .blanks;
+      digits = p .digits;
+      text = p .text;
       long = unfold whole in whole-length n q l;
-      all-digits = digits-more (r .digits) (digit q) (r .all-digits) (digit-low q) (digit-high q);
-      some = omega (arith, length-append (r .digits) (digit q ∷ []));
-      no-zero = go (r .digits) (r .first);
-      value = read-more 0 (r .digits) (digit q) ∙ ap (λ z. z * 10 + (digit q - 48)) (r .value) ∙ digit-value q;
+      all-digits = p .all-digits;
+      some = omega (arith, length-append (r .padded .digits) (digit q ∷ []));
+      no-zero = go (r .padded .digits) (r .first);
+      value = p .value;
     }
   where
     last : (n : ℕ) → 1 ≤ n → suc (n - 1) ≡ n

@@ -12,12 +12,13 @@ unitsOf d nan = 0
 unitsOf d (inf s) = 0
 unitsOf d (fin s m e) = (m * up e * d * 2 + down e) / (down e * 2)
 
+-- [17.9] finite: no NaN and no infinity
 unfoldable pub finite : Float → Bool
 finite nan = false
 finite (inf s) = false
 finite (fin s m e) = true
 
--- the most parts whose digits, with a point among them, fit `width` columns
+-- [17.9] not too wide: the most parts whose digits, with a point among them, fit `width` columns
 abbrev pub widest : ℕ → ℕ
 widest width = 10 ^ (width - 1) - 1
 

@@ -14,7 +14,7 @@ use Rattle.page.specs.Amounts.{widest, printable}
 use Rattle.page.specs.Text.{lineLength, rowAt, pageText}
 use Rattle.page.specs.declared.Row.{Row}
 
--- [17.9] a number is negative, not finite or too wide for its columns
+-- [17.9] no number of a line is negative, not finite or too wide for its columns
 unfoldable pub rowPrintable : Row → Bool
 rowPrintable r =
     printable 100 (widest 8) (r .x)
@@ -22,7 +22,7 @@ rowPrintable r =
     && printable 100 (widest 7) (r .size)
     && printable 1000 (widest 5) (r .score)
 
--- each of the first n candidates can be printed
+-- [17.9] .. of any of the first n candidates
 unfoldable pub everyPrintable : List Float → ℕ → Bool
 everyPrintable c n = turns n (λ i held. held && rowPrintable (rowAt c i)) true
 
@@ -37,6 +37,7 @@ pageTests c count page =
 
 -- [17.1] `candidate_page`: the page area becomes page′
 pub record Paging (c : List Float) (count : ℕ) (page page′ : List ℕ) (v : Verdict) : Type 0 where
+  -- [2.12] the lowest number that applies is given
   pub given : v ≡ verdictOf (lowestOf (pageTests c count page))
   -- [17.6] a longer area keeps its rest
   pub accepted : lowestOf (pageTests c count page) ≡ 0 → page′ ≡ pageText c count ++ drop (lineLength * count) page

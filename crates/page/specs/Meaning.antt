@@ -34,6 +34,7 @@ MinusZeroIs =
 
 -- ---- spelling
 
+-- each letter is a digit
 abbrev pub AllDigits : List ℕ → Type 0
 AllDigits [] = Unit {0}
 AllDigits (c ∷ l) = (48 ≤ c) × (c ≤ 57) × AllDigits l
@@ -93,8 +94,8 @@ pub record SpellsLine (rank : ℕ) (r : Row) (t : List ℕ) : Type 0 where
   -- [17.2] rank, blank, centre x, blank, centre y, blank, size, blank, score, and a line feed
   pub text :
       t
-      ≡ (rank-text ++ (blank ∷ [])) ++ (x-text ++ (blank ∷ [])) ++ (y-text ++ (blank ∷ [])) ++ (size-text ++ (blank ∷ []))
-      ++ (score-text ++ (feed ∷ []))
+      ≡ (rank-text ++ (blank ∷ [])) ++ (x-text ++ (blank ∷ [])) ++ (y-text ++ (blank ∷ []))
+      ++ (size-text ++ (blank ∷ [])) ++ (score-text ++ (feed ∷ []))
   -- [17.2] 4, 8, 8, 7 and 5 columns; [17.4] centres and size have two decimals and the score three
   pub rank-spelled : SpellsWhole 4 rank rank-text
   pub x-spelled : SpellsAmount 100 8 2 (r .x) x-text

@@ -28,7 +28,7 @@ leading q = cond (eqb q 0) blank (digit q)
 
 -- ---- numbers
 
--- n columns for the last n digits of q: the last column for q, the one before it for q / 10, ..
+-- [17.3] n columns for the last n digits of q, to the right: the last column for q, the one before it for q / 10, ..
 unfoldable pub columns : (ℕ → ℕ) → ℕ → ℕ → List ℕ
 columns letter zero q = []
 columns letter (suc n) q = columns letter n (q / 10) ++ (letter q ∷ [])
@@ -43,7 +43,7 @@ fieldOf width places q = whole (width - (places + 1)) (q / 10 ^ places) ++ (poin
 
 -- ---- lines
 
--- the numbers of candidate i of the flat list, which has no need of the places beside it
+-- [17.1] the numbers of candidate i, by their names in its record; its place in the patch list is not printed
 unfoldable pub rowAt : List Float → ℕ → Row
 rowAt c i =
     let r = candidateAt c [] i in

@@ -4,7 +4,7 @@
 // A function's own result is the refusal number (requirements, 2), 0 where it accepts: the lowest that
 // applies. Numbers are handed in and answered in lent slices, which may be longer than they need
 // be; a shorter one is refusal 3. What lies past the numbers of a slice is never written, and a
-// refusal by 1 to 6 writes nothing at all.
+// refusal by 1 to 6, 12 or 13 writes nothing at all.
 mod answers;
 mod fits;
 mod frames;
