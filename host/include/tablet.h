@@ -1,9 +1,10 @@
 /* tablet.h: the functions of libtablet.a (crate tablet), for C and C++.
  *
- * Every function returns a refusal number, 0 where it accepts. The lowest number that applies is given:
+ * Every function returns a refusal number, 0 where it accepts. The lowest number that applies is given, but in one place:
+ * tablet_read_book gives 3 after 14 and 15.
  *    1  a frame number outside its limit: sides 1 to 4096, cell 1 to 512, margin 0 to 4096 (the writer of the frame)
  *    2  a capture side outside 1 to 4096, or a capture or mask of another length than its sides say (the host)
- *    3  a work area, or a slice of numbers handed in or for results, is too short (the host)
+ *    3  a work area, a slice of numbers handed in or for results, or the memory for a book is too short (the host)
  *    4  the canonical image is not 3 * width * height bytes (the host)
  *    5  the frame has no room for its markers (the writer of the frame)
  *    6  a capture side below 32 (the photographer)
@@ -16,6 +17,10 @@
  *   12  tablet_candidate_page only: the page is shorter than 37 bytes a candidate (the host)
  *   13  tablet_candidate_page only: above 9,999 candidates, or a number negative, not finite or too wide (whoever hands in the
  *       candidates)
+ *   14  tablet_read_book and tablet_write_book only: the book's header, its length, a grade or a zero field is wrong, or its
+ *       length would be above 4,294,967,295 (whoever hands in the book)
+ *   15  tablet_read_book and tablet_write_book only: the book's keys, panel and then camera, do not rise strictly (whoever
+ *       hands in the book)
  *
  * A slice is a pointer and then its number of entries (not bytes). A pointer must not be NULL, with 0 entries too, and must
  * be aligned for its type. No two slices of a call may overlap, unless both are const. Nothing is kept after a call.
@@ -36,7 +41,7 @@
  *    candidates  four numbers a candidate, in patch order: centre x, centre y, score, size
  *    blob_index  for each candidate its patch's place in patches, from 0
  * and waiting and means hold nothing of use: they are free. Records past the last are as they were. After a refusal by 1 to 6
- * or 11 to 13 no memory is changed, and after any refusal the canonical image is as it was.
+ * or 11 to 15 no memory is changed, and after any refusal the canonical image is as it was.
  *
  * Acceptance says that the answer is the one that the rules give for this capture. It does not say that the four rings are the
  * card's, nor which way up the card lies: README.md, "When not to trust a card". host/flatten/src/phase.rs has a sign of both
@@ -73,7 +78,11 @@ enum {
     TABLET_GRID_LEN = 2,
     TABLET_PATCH_LEN = 7, /* one record of patches */
     TABLET_CANDIDATE_LEN = 4, /* one record of candidates */
-    TABLET_PAGE_LINE_LEN = 37 /* one line of a candidate page: 36 columns and a line feed */
+    TABLET_PAGE_LINE_LEN = 37, /* one line of a candidate page: 36 columns and a line feed */
+    TABLET_BOOK_HEADER_LEN = 16, /* bytes of a book before its first record */
+    TABLET_BOOK_RECORD_LEN = 120, /* bytes of one record of a book */
+    TABLET_BOOK_HEAD_LEN = 3, /* one record of heads; of its numbers TABLET_FIT_LEN */
+    TABLET_BOOK_MOST_RECORDS = 35791393 /* the length of a longer book does not fit its header */
 };
 
 /* Entries of the counts. tablet_fiducial_candidates fills the first three, tablet_detect_fiducials the first seven. They are
@@ -224,6 +233,22 @@ uint32_t tablet_rms_error(const double *a, size_t a_len, const double *b, size_t
  * candidates: TABLET_CANDIDATE_LEN for each, as a look leaves them; page: TABLET_PAGE_LINE_LEN for each, and the rest of a longer
  * one stays as it was. */
 uint32_t tablet_candidate_page(const double *candidates, size_t candidates_len, size_t count, uint8_t *page, size_t page_len);
+
+/* A book keeps fits as bytes, all numbers little-endian. Its header is four u32: the number of records, 16, 120, and the number
+ * of all its bytes, 16 + 120 times the records. A record is four u32, panel, camera, grade (TABLET_SCORED, TABLET_OUTSIDE or
+ * TABLET_TOO_FEW) and 0, and then the thirteen f64 of a fit. Panel, then camera, rise strictly from record to record.
+ * heads: TABLET_BOOK_HEAD_LEN for each record, panel, camera, grade; numbers: TABLET_FIT_LEN for each, the bit patterns of the
+ * f64. Patterns are kept as they are, NaN bits included: writing a book that was read gives its bytes back. */
+
+/* The records of a book of exactly book_len bytes. 14, 15 and only then 3 (heads, numbers). On acceptance there are
+ * (book_len - 16) / 120 of them, and the rest of longer heads and numbers stays as it was. */
+uint32_t tablet_read_book(const uint8_t *book, size_t book_len, uint32_t *heads, size_t heads_len,
+                          uint64_t *numbers, size_t numbers_len);
+
+/* The book of the first count records. 3, 14 (count, grades), 15. On acceptance its length is 16 + 120 * count, and the rest of
+ * a longer book stays as it was. */
+uint32_t tablet_write_book(const uint32_t *heads, size_t heads_len, const uint64_t *numbers, size_t numbers_len,
+                           size_t count, uint8_t *book, size_t book_len);
 
 /* All slices of a look, of a fit and of rectify, for captures of one size and one frame. tablet_areas_lend fills it but for the
  * capture; the functions below then take it in the place of 26 arguments. */

@@ -4,7 +4,7 @@ use mathlib.Core.List.{List, [], _∷_, _++_}
 use Prim.Native.Nat.{ℕ, zero, suc, _+_, _-_, _≤_, _<_}
 use native.Mathlib.Omega.{arith}
 use lib.ListN.{length, getD, take, drop, length-append, length-drop, List·getD-append}
-use lib.Seq.{ext-getD, getD-append-add, getD-drop, take-at, drop-at}
+use lib.Seq.{ext-getD, getD-append-add, getD-drop, getD-take, length-take-le, take-at, drop-at}
 use Rattle.base.specs.Loops.{table, filled}
 use Rattle.base.proofs.Plane.{length-filled, filled-at, filled-is}
 
@@ -72,3 +72,9 @@ module _ {A : Type 0} (f : ℕ → A) where
 
   pub drop-filled : (n : ℕ) (d : A) (l : List A) → n ≤ length l → drop n (filled f n l) ≡ drop n l
   drop-filled n d l h = ap (drop n) (filled-front n d l h) ∙ drop-at (table f n) (drop n l) n (length-table f n)
+
+-- a loop that copies the first n entries
+pub filled-take : {A : Type 0} (d : A) (l m : List A) (n : ℕ) → n ≤ length l → length m ≡ n → filled (λ k. getD l k d) n m ≡ take n l
+filled-take d l m n h e =
+    filled-whole (λ k. getD l k d) n m e
+    ∙ sym (table-is (λ k. getD l k d) n d (take n l) (length-take-le n l h) (λ k b. getD-take n l k d b))

@@ -1,6 +1,7 @@
 -- Loops, tables and planes, as functions on values. Assumes nothing.
 use Prim.Native.Nat.{ℕ, zero, suc, _+_, _-_, _%_, _/_}
-use mathlib.Core.List.{List, [], _∷_}
+use mathlib.Core.Bool.{Bool, true, _&&_}
+use mathlib.Core.List.{List, [], _∷_, _++_}
 use lib.ListN.{set}
 
 -- a counted loop: f 0, then f 1, .. then f (n - 1), on a
@@ -12,10 +13,19 @@ turns (suc n) f a = f n (turns n f a)
 unfoldable pub between : {A : Type 0} → ℕ → ℕ → (ℕ → A → A) → A → A
 between lo hi f a = turns (hi - lo) (λ k. f (lo + k)) a
 
+-- p holds for 0, 1, .. n - 1
+unfoldable pub every : ℕ → (ℕ → Bool) → Bool
+every n p = turns n (λ i held. held && p i) true
+
 -- the list f 0, f 1, .. f (n - 1)
 unfoldable pub table : {A : Type 0} → (ℕ → A) → ℕ → List A
 table f zero = []
 table f (suc n) = f zero ∷ table (λ k. f (suc k)) n
+
+-- the lists f 0, f 1, .. f (n - 1), one after another
+unfoldable pub joined : {A : Type 0} → (ℕ → List A) → ℕ → List A
+joined f zero = []
+joined f (suc n) = joined f n ++ f n
 
 -- a table written over the start of a list: entry k is f k for k below n, and the rest stays
 abbrev pub fillAt : {A : Type 0} → (ℕ → A) → ℕ → List A → List A

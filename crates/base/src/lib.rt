@@ -1,5 +1,7 @@
 // Functions of whole numbers that Rust has as methods: on usize, and on u64 where the name says so.
 // specs/ has the definitions and proofs/ the laws that every layer shares.
+pub mod internal;
+
 ghost use mathlib.Core.Path.{_≡_};
 ghost use Prim.Native.Nat.{_-_, min, max};
 

@@ -17,6 +17,10 @@ ghost use Rattle.frame.specs.Limits.{FrameHeld, SidesHeld, CaptureHeld};
 ghost use Rattle.fit.specs.Grid.{gradeOf, scoreOf};
 ghost use Rattle.fit.specs.Fits as spec;
 ghost use Rattle.fit.specs.Contracts.{sampledCells};
+pub use super::numbers::fit_numbers;
+pub use super::numbers::fit_of;
+pub use super::numbers::grade_number;
+pub use super::numbers::matrix_of;
 
 // The four centres without the lens.
 fn undistorted(lens: Radial, q: Quad) -> Quad

@@ -1,6 +1,7 @@
 // The fit: homography and lens, and the grid score.
 mod grid;
 pub mod internal;
+mod numbers;
 
 use frame::FrameSpec;
 use frame::Point;

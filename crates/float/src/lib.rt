@@ -3,6 +3,7 @@
 // equation with a definition of specs/.
 pub mod internal;
 mod order;
+mod pattern;
 mod root;
 mod rounding;
 mod sign;
@@ -11,6 +12,8 @@ mod width;
 
 pub use order::clamp;
 pub use order::max;
+pub use pattern::from_bits;
+pub use pattern::to_bits;
 pub use root::sqrt;
 pub use rounding::round;
 pub use sign::abs;

@@ -1,5 +1,5 @@
 -- Answers from the tests' number. Assumes nothing.
-use mathlib.Core.Path.{_≡_, refl}
+use mathlib.Core.Path.{_≡_, refl, sym}
 use mathlib.Core.List.{List}
 use Prim.Native.Nat.{ℕ, zero, suc}
 use Rattle.frame.specs.Refusals.{Check, lowestOf, verdictOf, numberOf}
@@ -28,6 +28,10 @@ module _ (tests : List Check) where
   pub number-refused : (v n : ℕ) → lowestOf tests ≡ suc n → N.Refused (suc n) ≡ numberFor tests v
   unfolding numberFor numberAs
   number-refused v n e = rw e
+
+  pub number-given : (v n : ℕ) → n ≡ lowestOf tests → (n ≡ 0 → ⊥) → N.Refused n ≡ numberFor tests v
+  number-given v zero e h = absurd (h refl)
+  number-given v (suc n) e h = number-refused v n (sym e)
 
   pub framed-refused : (f : FrameSpec) (n : ℕ) → lowestOf tests ≡ suc n → F.Refused (suc n) ≡ framedFor tests f
   unfolding framedFor framedAs

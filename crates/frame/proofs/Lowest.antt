@@ -2,7 +2,7 @@
 use mathlib.Core.Path.{_≡_, refl, sym, subst, _∙_}
 use mathlib.Core.Bool.{Bool, true, false, cond}
 use mathlib.Core.Logic.{inl, inr}
-use mathlib.Core.List.{List, [], _∷_}
+use mathlib.Core.List.{List, [], _∷_, _++_}
 use Prim.Native.Nat.{ℕ, _≤_, _<_}
 use native.Mathlib.Nat.{lt-of-not-le, le-antisymm, le-of-suc-le-suc}
 use native.Mathlib.Omega.{arith}
@@ -91,6 +91,29 @@ lowest-next n t l e = rw e
 pub lowest-none : lowestOf [] ≡ 0
 unfolding lowestOf
 lowest-none = refl
+
+-- ---- tests p, with others q behind them
+
+module _ (q : List Check) where
+  before-step : (b : Bool) (m k n : ℕ) (p : List Check) → (n ≡ k → n ≡ lowestOf (p ++ q)) → n ≡ cond b m k → n ≡ cond b m (lowestOf (p ++ q))
+  before-step true m k n p f d = d
+  before-step false m k n p f d = f d
+
+  pub lowest-before : (p : List Check) (n : ℕ) → n ≡ lowestOf p → (n ≡ 0 → ⊥) → n ≡ lowestOf (p ++ q)
+  unfolding lowestOf
+  lowest-before [] n e h = absurd (h e)
+  lowest-before (c ∷ p) n e h = before-step (c .holds) (c .number) (lowestOf p) n p (λ d. lowest-before p n d h) e
+
+  past-step : (b : Bool) (m k j : ℕ) → 0 < m → (k ≡ 0 → j ≡ lowestOf q) → cond b m k ≡ 0 → cond b m j ≡ lowestOf q
+  past-step true m k j h f d = absurd (omega arith)
+  past-step false m k j h f d = f d
+
+  pub lowest-past : (lo : ℕ) (p : List Check) → Rising lo p → lowestOf p ≡ 0 → lowestOf (p ++ q) ≡ lowestOf q
+  unfolding lowestOf
+  lowest-past lo [] r e = refl
+  lowest-past lo (c ∷ p) r e =
+      let x : lo < c .number = r .0 in
+      past-step (c .holds) (c .number) (lowestOf p) (lowestOf (p ++ q)) (omega arith) (lowest-past (c .number) p (r .1)) e
 
 -- ---- the tests of this crate's definitions rise, so that a refusal is the lowest number by meaning
 

@@ -1,7 +1,6 @@
 -- Laws of several functions' proofs, and the theorems of specs/Meaning.
 mod Amounts
 pub mod Meaning
-mod Over
 mod Printing
 mod Refusing
 pub mod Spelling

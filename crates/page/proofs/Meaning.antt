@@ -1,9 +1,7 @@
 -- The theorems of specs/Meaning on amounts, lines and refusals. Assumes nothing.
 use mathlib.Core.Path.{_≡_, refl, sym, ap, _∙_, subst}
 use mathlib.Core.Bool.{true, not, _&&_, true≢false}
-use mathlib.Core.Logic.{⊎-elim}
-use mathlib.Core.List.{List, _++_}
-use Prim.Native.Nat.{ℕ, zero, suc, _+_, _*_, _/_, _≤_, _<_}
+use Prim.Native.Nat.{ℕ, _+_, _*_, _/_, _≤_, _<_}
 use native.Mathlib.Nat.{div-mul-le-self, lt-div-mul-add, div-eq-of-lt-le, mul-assoc, mul-comm, add-mul, one-mul, zero-mul}
 use native.Mathlib.Omega.{arith}
 use borrow.Author.Tests.{leb-true, le-leb}
@@ -11,17 +9,15 @@ use lib.Dec.{leb}
 use lib.IntN.{pos}
 use lib.Ieee.{Float, nan, inf, fin, up, down, lt, ofInt}
 use lib.Ieee.Fits.{down-pos}
-use lib.ListN.{take, drop, length-drop}
-use lib.Seq.{drop-append-le, drop-at, take-append-le, take-all}
-use Rattle.base.specs.Loops.{turns}
-use Rattle.base.proofs.Arith.{last-or}
-use Rattle.base.proofs.Tests.{and-left, and-right, and-both}
+use Rattle.base.proofs.Joined.{joined-part}
+use Rattle.base.proofs.Every.{every-one, one-every}
+use Rattle.base.proofs.Tests.{and-left, and-right}
 use Rattle.float.specs.Floats.{f64}
 use Rattle.float.proofs.Halves.{double-pos}
 use Rattle.frame.proofs.Lowest.{lowest-of}
 use Rattle.page.specs.Amounts.{unitsOf, finite, widest, printable}
-use Rattle.page.specs.Text.{whole, fieldOf, lineLength, lineOf, rowAt, pageText}
-use Rattle.page.specs.Contracts.{rowPrintable, everyPrintable, pageTests}
+use Rattle.page.specs.Text.{whole, fieldOf, lineLength, lineOf, rowAt}
+use Rattle.page.specs.Contracts.{pageTests}
 use Rattle.page.specs.Meaning.{AmountIs, MinusZeroIs, SpellsAmount, LineSpelled, LineLong, PageLong, LinesAre, EachPrintable, LowestGiven}
 use Rattle.page.proofs.Printing.{each-of}
 use Rattle.page.proofs.Spelling.{whole-spelled, parts-spelled}
@@ -110,39 +106,11 @@ pub page-long : PageLong
 page-long = page-length
 
 pub lines-are : LinesAre
-unfolding pageText
-lines-are c zero i h = absurd (omega arith)
-lines-are c (suc n) i h = ⊎-elim last (λ k. before k (lines-are c n i k)) (last-or i n h)
-  where
-    last : i ≡ n → take lineLength (drop (lineLength * i) (pageText c n ++ lineOf (n + 1) (rowAt c n))) ≡ lineOf (i + 1) (rowAt c i)
-    last e =
-        ap (take lineLength) (drop-at (pageText c n) (lineOf (n + 1) (rowAt c n)) (lineLength * i) (page-length c n ∙ ap (λ k. lineLength * k) (sym e)))
-        ∙ take-all lineLength (lineOf (n + 1) (rowAt c n)) (omega (arith, line-length (n + 1) (rowAt c n)))
-        ∙ ap (λ k. lineOf (k + 1) (rowAt c k)) (sym e)
-
-    before : i < n → take lineLength (drop (lineLength * i) (pageText c n)) ≡ lineOf (i + 1) (rowAt c i)
-        → take lineLength (drop (lineLength * i) (pageText c n ++ lineOf (n + 1) (rowAt c n))) ≡ lineOf (i + 1) (rowAt c i)
-    before k r =
-        ap (take lineLength) (drop-append-le (lineLength * i) (pageText c n) (lineOf (n + 1) (rowAt c n)) (omega (arith, page-length c n)))
-        ∙ take-append-le lineLength (drop (lineLength * i) (pageText c n)) (lineOf (n + 1) (rowAt c n)) (omega (arith, length-drop (lineLength * i) (pageText c n), page-length c n))
-        ∙ r
+lines-are c n i h = joined-part _ lineLength (λ i. line-length (i + 1) (rowAt c i)) n i h
 
 -- ---- refusals
-pub every-one : (c : List Float) (n : ℕ) → everyPrintable c n ≡ true → (i : ℕ) → i < n → rowPrintable (rowAt c i) ≡ true
-unfolding everyPrintable turns
-every-one c zero h i k = absurd (omega arith)
-every-one c (suc n) h i k = ⊎-elim
-    (λ e. ap (λ j. rowPrintable (rowAt c j)) e ∙ and-right (everyPrintable c n) (rowPrintable (rowAt c n)) h)
-    (λ l. every-one c n (and-left (everyPrintable c n) (rowPrintable (rowAt c n)) h) i l)
-    (last-or i n k)
-
-pub one-every : (c : List Float) (n : ℕ) → ((i : ℕ) → i < n → rowPrintable (rowAt c i) ≡ true) → everyPrintable c n ≡ true
-unfolding everyPrintable turns
-one-every c zero f = refl
-one-every c (suc n) f = and-both (everyPrintable c n) (rowPrintable (rowAt c n)) (one-every c n (λ i k. f i (omega arith))) (f n (omega arith))
-
 pub each-printable : EachPrintable
-each-printable c n = (every-one c n, one-every c n)
+each-printable c n = (every-one _ n, one-every _ n)
 
 pub lowest-given : LowestGiven
 unfolding pageTests

@@ -2,12 +2,12 @@
 use mathlib.Core.Path.{_≡_, refl, sym, ap, _∙_}
 use mathlib.Core.List.{List, [], _∷_, _++_, append-nil}
 use Prim.Native.Nat.{ℕ, zero, suc, _+_, _-_, _*_, _/_, _^_, _≤_, _<_}
-use native.Mathlib.Nat.{mul-suc}
 use native.Mathlib.Numerals.{add-one}
 use native.Mathlib.Omega.{arith}
 use lib.Ieee.{Float}
 use lib.ListN.{length, drop, set, length-append, length-set}
 use lib.Seq.{drop-cons, drop-length, drop-set-lt, getD-set-same, append-snoc}
+use Rattle.base.proofs.Joined.{length-joined}
 use Rattle.page.specs.Text.{blank, point, feed, digit, leading, columns, whole, fieldOf, lineLength, lineOf, rowAt, pageText}
 use Rattle.page.specs.Amounts.{unitsOf}
 use Rattle.page.specs.declared.Row.{Row}
@@ -57,11 +57,7 @@ line-length rank r =
         omega (arith, length-append (a ++ b ++ c ++ d) e, length-append (a ++ b ++ c) d, length-append (a ++ b) c, length-append a b)
 
 pub page-length : (c : List Float) (n : ℕ) → length (pageText c n) ≡ lineLength * n
-unfolding pageText
-page-length c zero = refl
-page-length c (suc n) =
-    length-append (pageText c n) (lineOf (n + 1) (rowAt c n))
-    ∙ omega (arith, page-length c n, line-length (n + 1) (rowAt c n), mul-suc 37 n)
+page-length c n = length-joined _ lineLength (λ i. line-length (i + 1) (rowAt c i)) n
 
 -- ---- columns from the right: k are left, and what is behind them is written
 

@@ -1,12 +1,12 @@
 -- What `candidate_page` does (requirements, 17). Assumes nothing.
 use Prim.Native.Nat.{ℕ, _*_, _≤_}
 use mathlib.Core.Path.{_≡_}
-use mathlib.Core.Bool.{Bool, true, not, _&&_, _||_}
+use mathlib.Core.Bool.{Bool, not, _&&_, _||_}
 use mathlib.Core.List.{List, [], _∷_, _++_}
 use lib.Dec.{ltb}
 use lib.Ieee.{Float}
 use lib.ListN.{length, drop}
-use Rattle.base.specs.Loops.{turns}
+use Rattle.base.specs.Loops.{every}
 use Rattle.frame.specs.Refusals.{Check, check, verdictOf, lowestOf}
 use Rattle.frame.specs.declared.Verdict.{Verdict}
 use Rattle.candidates.specs.Ring.{candidateLength}
@@ -23,8 +23,8 @@ rowPrintable r =
     && printable 1000 (widest 5) (r .score)
 
 -- [17.9] .. of any of the first n candidates
-unfoldable pub everyPrintable : List Float → ℕ → Bool
-everyPrintable c n = turns n (λ i held. held && rowPrintable (rowAt c i)) true
+abbrev pub everyPrintable : List Float → ℕ → Bool
+everyPrintable c n = every n (λ i. rowPrintable (rowAt c i))
 
 -- [17.7] 3: a list shorter than its count; [17.8] 12: the page area is shorter than 37 bytes a candidate; [17.9] 13:
 -- above 9,999 candidates, or a number that cannot be printed

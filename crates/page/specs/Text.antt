@@ -4,6 +4,7 @@ use mathlib.Core.Bool.{cond}
 use mathlib.Core.List.{List, [], _∷_, _++_}
 use lib.Dec.{eqb}
 use lib.Ieee.{Float}
+use Rattle.base.specs.Loops.{joined}
 use Rattle.candidates.specs.Ring.{candidateAt}
 use Rattle.page.specs.Amounts.{unitsOf}
 use Rattle.page.specs.declared.Row.{Row}
@@ -64,6 +65,5 @@ lineOf rank r =
     ++ (fieldOf 5 3 (unitsOf 1000 (r .score)) ++ (feed ∷ []))
 
 -- [17.5] the ranks start at 1 in candidate order
-unfoldable pub pageText : List Float → ℕ → List ℕ
-pageText c zero = []
-pageText c (suc n) = pageText c n ++ lineOf (n + 1) (rowAt c n)
+abbrev pub pageText : List Float → ℕ → List ℕ
+pageText c n = joined (λ i. lineOf (i + 1) (rowAt c i)) n

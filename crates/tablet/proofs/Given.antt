@@ -7,7 +7,9 @@ use Rattle.frame.specs.Image.{Image}
 use Rattle.frame.specs.Refusals.{verdictOf, numberOf}
 use Rattle.frame.specs.declared.FrameSpec.{FrameSpec}
 use Rattle.frame.specs.declared.Verdict.{Verdict}
-use Rattle.frame.proofs.Given.{verdict-number}
+use Rattle.frame.proofs.Given.{verdict-number, number-number}
+use Rattle.frame.specs.Answers.{numberRefusal, numberAs, numberFor}
+use Rattle.frame.specs.declared.Number.{Number}
 use Rattle.markers.specs.Contracts.{Stamping}
 use Rattle.blobs.specs.Areas.{PatchAreas}
 use Rattle.blobs.specs.Contracts.{Labelling}
@@ -26,8 +28,10 @@ use Rattle.frame.specs.declared.Quad.{Quad}
 use Rattle.fiducials.specs.declared.Places.{Places}
 use Rattle.geometry.specs.Contracts.{Warping}
 use Rattle.page.specs.Contracts.{Paging}
+use Rattle.book.specs.Layout.{bookLength, countIn}
+use Rattle.book.specs.Contracts.{Reading, Writing}
 use Rattle.geometry.specs.Warp.{warped}
-use Rattle.tablet.specs.Layouts.{fitOf}
+use Rattle.fit.specs.Numbers.{fitOf}
 
 -- the number of a verdict that has the number n
 pub number-is : (v : Verdict) (n r : ℕ) → v ≡ verdictOf n → r ≡ numberOf v → r ≡ n
@@ -42,6 +46,21 @@ stamping img f v out r e s = record { given = verdict-is v _ r (s .given) e; acc
 
 pub paging : (c : List Float) (count : ℕ) (page page′ : List ℕ) (v : Verdict) (r : ℕ) → r ≡ numberOf v → Paging c count page page′ v → Paging c count page page′ (verdictOf r)
 paging c count page page′ v r e s = record { given = verdict-is v _ r (s .given) e; accepted = s .accepted; refused = s .refused }
+
+-- .. where that answer is a number
+given-number : (a : Number) (n v r : ℕ) → a ≡ numberAs n v → r ≡ numberRefusal a → numberAs r v ≡ numberAs n v
+given-number a n v r g e = ap (λ k. numberAs k v) (e ∙ ap numberRefusal g ∙ number-number n v)
+
+pub reading : (b heads numbers heads′ numbers′ : List ℕ) (a : Number) (r : ℕ) → r ≡ numberRefusal a → Reading b heads numbers heads′ numbers′ a
+    → Reading b heads numbers heads′ numbers′ (numberAs r (countIn b))
+unfolding numberFor
+reading b heads numbers heads′ numbers′ a r e s =
+    record { given = given-number a _ _ r (s .given) e; heads-are = s .heads-are; numbers-are = s .numbers-are; refused = s .refused }
+
+pub writing : (heads numbers : List ℕ) (count : ℕ) (book book′ : List ℕ) (a : Number) (r : ℕ) → r ≡ numberRefusal a → Writing heads numbers count book book′ a
+    → Writing heads numbers count book book′ (numberAs r (bookLength count))
+unfolding numberFor
+writing heads numbers count book book′ a r e s = record { given = given-number a _ _ r (s .given) e; accepted = s .accepted; refused = s .refused }
 
 pub warping : (img : Image) (f : FrameSpec) (fit : List Float) (t : GeometryFit) (c c′ : List ℕ) (v : Verdict) (r : ℕ) → t ≡ fitOf fit → r
     ≡ numberOf v → Warping img f t c c′ v → Warping img f (fitOf fit) c c′ (verdictOf r)

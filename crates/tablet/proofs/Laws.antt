@@ -7,13 +7,11 @@ use native.Mathlib.Nat.{mul-le-mul}
 use native.Mathlib.Omega.{arith}
 use lib.Dec.{T, leb}
 use borrow.Author.Tests.{leb-true}
-use lib.Ieee.{Float, nan}
-use lib.ListN.{length, getD, take, drop, length-append, length-drop}
-use lib.Seq.{length-take-le, getD-take}
+use lib.ListN.{length, getD, drop, length-append, length-drop}
 use Rattle.base.specs.Loops.{filled}
-use Rattle.base.proofs.Table.{table-is, filled-whole, filled-front}
+use Rattle.base.proofs.Table.{table-is, filled-front}
 use Rattle.frame.specs.Refusals.{Check, check, lowestOf}
-use Rattle.frame.proofs.Lowest.{Rising}
+use Rattle.frame.proofs.Lowest.{lowest-before}
 use Rattle.base.proofs.Tests.{and-left}
 use Rattle.tablet.specs.Slices.{written, answered, Answer, Over, told}
 
@@ -28,12 +26,6 @@ module _ {A : Type 0} (v l : List A) (d : A) (h : length v ≤ length l) where
 pub length-written : {A : Type 0} (v l : List A) → length v ≤ length l → length (written v l) ≡ length l
 unfolding written
 length-written v l h = simp (length-append, length-drop) (omega arith)
-
--- .. and one that reads the first n
-pub filled-take : (l m : List Float) (n : ℕ) → n ≤ length l → length m ≡ n → filled (λ k. getD l k nan) n m ≡ take n l
-filled-take l m n h e =
-    filled-whole (λ k. getD l k nan) n m e
-    ∙ sym (table-is (λ k. getD l k nan) n nan (take n l) (length-take-le n l h) (λ k b. getD-take n l k nan b))
 
 -- ---- a call's answer, from the number of its tests
 
@@ -51,29 +43,6 @@ pub answered-refused : {A : Type 0} {n : ℕ} (v l : List A) → (n ≡ 0 → �
 unfolding answered
 answered-refused {n = zero} v l h = absurd (h refl)
 answered-refused {n = suc n} v l h = refl
-
--- ---- the tests p of a public function, with others q behind them
-
-module _ (q : List Check) where
-  before-step : (b : Bool) (m k n : ℕ) (p : List Check) → (n ≡ k → n ≡ lowestOf (p ++ q)) → n ≡ cond b m k → n ≡ cond b m (lowestOf (p ++ q))
-  before-step true m k n p f d = d
-  before-step false m k n p f d = f d
-
-  pub lowest-before : (p : List Check) (n : ℕ) → n ≡ lowestOf p → (n ≡ 0 → ⊥) → n ≡ lowestOf (p ++ q)
-  unfolding lowestOf
-  lowest-before [] n e h = absurd (h e)
-  lowest-before (c ∷ p) n e h = before-step (c .holds) (c .number) (lowestOf p) n p (λ d. lowest-before p n d h) e
-
-  past-step : (b : Bool) (m k j : ℕ) → 0 < m → (k ≡ 0 → j ≡ lowestOf q) → cond b m k ≡ 0 → cond b m j ≡ lowestOf q
-  past-step true m k j h f d = absurd (omega arith)
-  past-step false m k j h f d = f d
-
-  pub lowest-past : (lo : ℕ) (p : List Check) → Rising lo p → lowestOf p ≡ 0 → lowestOf (p ++ q) ≡ lowestOf q
-  unfolding lowestOf
-  lowest-past lo [] r e = refl
-  lowest-past lo (c ∷ p) r e =
-      let x : lo < c .number = r .0 in
-      past-step (c .holds) (c .number) (lowestOf p) (lowestOf (p ++ q)) (omega arith) (lowest-past (c .number) p (r .1)) e
 
 -- a call that its public function refuses
 pub refused-before : {A : Type 0} (p q : List Check) (v l : List A) (n : ℕ) → n ≡ lowestOf p → (n ≡ 0 → ⊥) → Answer (p ++ q) v l n l

@@ -19,7 +19,8 @@ use Rattle.fiducials.specs.Contracts.{Detection}
 use Rattle.frame.specs.declared.Quad.{Quad}
 use Rattle.fiducials.specs.declared.Places.{Places}
 use Rattle.tablet.specs.Slices.{short, answered, told, Over}
-use Rattle.tablet.specs.Layouts.{fitOf, gradeNumbers, listNumbers, placeNumbers, quadNumbers}
+use Rattle.fit.specs.Numbers.{fitOf}
+use Rattle.tablet.specs.Layouts.{gradeNumbers, listNumbers, placeNumbers, quadNumbers}
 use Rattle.tablet.specs.Tests.{captureFirst, maskFirst}
 
 -- `warp_with`

@@ -1,19 +1,17 @@
 -- In which order numbers stand in a slice (host/include/tablet.h). Assumes nothing.
 use mathlib.Core.List.{List, [], _∷_, _++_}
 use Prim.Native.Nat.{ℕ, _*_}
-use lib.ListN.{getD, take}
-use lib.Ieee.{Float, nan}
+use lib.Ieee.{Float}
 use Rattle.candidates.specs.Areas.{smallest}
 use Rattle.fit.specs.Contracts.{sampledCells}
+use Rattle.fit.specs.Numbers.{at, gradeNumber}
 use Rattle.frame.specs.declared.FrameSpec.{FrameSpec}
 use Rattle.frame.specs.declared.Point.{Point}
 use Rattle.frame.specs.declared.Quad.{Quad}
 use Rattle.frame.specs.declared.Rgb.{Rgb}
-use Rattle.homography.specs.declared.Homography.{Homography}
 use Rattle.radial.specs.declared.Radial.{Radial}
 use Rattle.candidates.specs.declared.Lengths.{Lengths}
 use Rattle.fiducials.specs.declared.Places.{Places}
-use Rattle.fit.specs.declared.GeometryFit.{GeometryFit}
 use Rattle.fit.specs.declared.Grade.{Grade}
 use Rattle.fit.specs.declared.Grade.the-variants.{Score, Outside, TooFew}
 
@@ -22,9 +20,6 @@ abbrev pub frame : ℕ → ℕ → ℕ → ℕ → FrameSpec
 frame width height cell margin = record { width = width; height = height; cell = cell; margin = margin }
 
 -- ---- what is handed in
-
-abbrev pub at : List Float → ℕ → Float
-at l i = getD l i nan
 
 -- "x, y of TL, TR, BR, BL"
 unfoldable pub quadOf : List Float → Quad
@@ -36,17 +31,9 @@ quadOf l =
       bl = record { x = at l 6; y = at l 7 };
     }
 
--- "nine numbers by rows"
-unfoldable pub matrixOf : List Float → Homography
-matrixOf l = record { m = take 9 l }
-
 -- "k, cx, cy, norm"
 unfoldable pub lensOf : List Float → Radial
 lensOf l = record { k = at l 0; cx = at l 1; cy = at l 2; norm = at l 3 }
-
--- "a matrix and then a lens: 13 numbers"
-unfoldable pub fitOf : List Float → GeometryFit
-fitOf l = record { h = matrixOf l; radial = record { k = at l 9; cx = at l 10; cy = at l 11; norm = at l 12 } }
 
 -- ---- results
 
@@ -56,24 +43,8 @@ pointNumbers p = p .x ∷ p .y ∷ []
 unfoldable pub quadNumbers : Quad → List Float
 quadNumbers q = q .tl .x ∷ q .tl .y ∷ q .tr .x ∷ q .tr .y ∷ q .br .x ∷ q .br .y ∷ q .bl .x ∷ q .bl .y ∷ []
 
-unfoldable pub lensNumbers : Radial → List Float
-lensNumbers l = l .k ∷ l .cx ∷ l .cy ∷ l .norm ∷ []
-
--- the nine entries of a matrix
-unfoldable pub matrixNumbers : List Float → List Float
-matrixNumbers m = at m 0 ∷ at m 1 ∷ at m 2 ∷ at m 3 ∷ at m 4 ∷ at m 5 ∷ at m 6 ∷ at m 7 ∷ at m 8 ∷ []
-
-unfoldable pub fitNumbers : GeometryFit → List Float
-fitNumbers f = matrixNumbers (f .h .m) ++ lensNumbers (f .radial)
-
 unfoldable pub colourNumbers : Rgb → List ℕ
 colourNumbers c = c .r ∷ c .g ∷ c .b ∷ []
-
--- "Grades": 0 scored, 1 outside, 2 too few
-unfoldable pub gradeNumber : Grade → ℕ
-gradeNumber (Score s) = 0
-gradeNumber (Outside cell) = 1
-gradeNumber TooFew = 2
 
 -- the outside cell, 0 where there is none
 unfoldable pub outsideCell : Grade → ℕ

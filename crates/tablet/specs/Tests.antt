@@ -14,7 +14,8 @@ use Rattle.homography.specs.Equations.{hasHomography}
 use Rattle.homography.specs.Homography.{singular}
 use Rattle.fit.specs.Fits.{fitsFor}
 use Rattle.tablet.specs.Slices.{short}
-use Rattle.tablet.specs.Layouts.{quadOf, matrixOf}
+use Rattle.fit.specs.Numbers.{matrixOf}
+use Rattle.tablet.specs.Layouts.{quadOf}
 
 -- `mat3_mul`
 unfoldable pub productTests : List Float → List Float → List Float → List Check

@@ -15,7 +15,8 @@ use Rattle.fit_geometry.specs.Contracts.{Fitting}
 use Rattle.fit_geometry.specs.declared.PictureFit.{PictureFit}
 use Rattle.geometry.specs.Rectification.{Lent, Rectification}
 use Rattle.tablet.specs.Slices.{short, answered, told, Over}
-use Rattle.tablet.specs.Layouts.{fitNumbers, gradeNumber, outsideCell, listNumbers, placeNumbers}
+use Rattle.fit.specs.Numbers.{fitNumbers, gradeNumber}
+use Rattle.tablet.specs.Layouts.{outsideCell, listNumbers, placeNumbers}
 use Rattle.tablet.specs.Tests.{captureFirst}
 
 -- the kept trial: "TABLET_NO_GRADE" where there is none

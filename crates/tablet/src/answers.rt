@@ -23,7 +23,7 @@ ghost use Rattle.frame.specs.Answers.{numberRefusal, numberValue};
 ghost use Rattle.markers.specs.Answers.{centersRefusal, centersValue};
 ghost use Rattle.radial.specs.Lens.{lensRefusal, lensValue};
 ghost use Rattle.sampling.specs.Answers.{colourRefusal, colourValue};
-ghost use Rattle.tablet.specs.Layouts.{gradeNumber, outsideCell};
+ghost use Rattle.tablet.specs.Layouts.{outsideCell};
 ghost use Rattle.tablet.specs.Tests.{frameFirst, sidesFirst, captureFirst, maskFirst};
 
 // The number of a refusal, 0 of an acceptance.
@@ -123,17 +123,6 @@ pub fn centers_value(a: Centers) -> Quad
             br: Point { x: 0.0, y: 0.0 },
             bl: Point { x: 0.0, y: 0.0 },
         },
-    }
-}
-
-// A grade's two numbers, and its score.
-pub fn grade_number(g: Grade) -> u64
-    ensures { λ r. ⌜ r ≡ gradeNumber g ⌝ }
-{
-    match g {
-        Grade::Score(_) => 0,
-        Grade::Outside(_) => 1,
-        Grade::TooFew => 2,
     }
 }
 

@@ -1,6 +1,5 @@
 // Fits and their grid score.
 use super::answers::capture_first;
-use super::answers::grade_number;
 use super::answers::number_of;
 use super::answers::outside_cell;
 use super::answers::sides_first;
@@ -11,12 +10,14 @@ use super::slices::store;
 use super::slices::store_counts;
 use super::slices::store_fit;
 use fit::GridScore;
+use fit::internal::grade_number;
 use fit::internal::score_of;
 use frame::FrameSpec;
 ghost use Rattle.frame.specs.Image.{image};
 ghost use Rattle.fit.specs.Fits.{fitFor};
 ghost use Rattle.tablet.specs.Slices.{Answer};
-ghost use Rattle.tablet.specs.Layouts.{frame, quadOf, fitNumbers};
+ghost use Rattle.fit.specs.Numbers.{fitNumbers};
+ghost use Rattle.tablet.specs.Layouts.{frame, quadOf};
 ghost use Rattle.tablet.specs.Tests.{fitTests};
 ghost use Rattle.tablet.specs.Contracts.{GridScored};
 
@@ -86,7 +87,7 @@ pub extern "C" fn tablet_grid_score(
     if short3(fit.len(), 13, grade.len(), 2, score.len(), 1) {
         return capture_first(capture, w, h, f);
     }
-    let t = super::slices::fit(fit);
+    let t = fit::internal::fit_of(fit);
     let a = fit::grid_score(capture, w, h, f, t, means);
     match a {
         GridScore::Refused(n) => n,

@@ -8,7 +8,8 @@ use frame::Point;
 use radial::Radial;
 ghost use Rattle.radial.specs.Lens as model;
 ghost use Rattle.tablet.specs.Slices.{Answer};
-ghost use Rattle.tablet.specs.Layouts.{lensOf, pointNumbers, lensNumbers};
+ghost use Rattle.fit.specs.Numbers.{lensNumbers};
+ghost use Rattle.tablet.specs.Layouts.{lensOf, pointNumbers};
 ghost use Rattle.tablet.specs.Tests.{lensTests, moveTests};
 
 // The lens of a capture of w by h with the term k.

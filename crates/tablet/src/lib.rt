@@ -4,8 +4,9 @@
 // A function's own result is the refusal number (requirements, 2), 0 where it accepts: the lowest that
 // applies. Numbers are handed in and answered in lent slices, which may be longer than they need
 // be; a shorter one is refusal 3. What lies past the numbers of a slice is never written, and a
-// refusal by 1 to 6, 12 or 13 writes nothing at all.
+// refusal by 1 to 6 or 12 to 15 writes nothing at all.
 mod answers;
+mod books;
 mod fits;
 mod frames;
 mod lens;
@@ -17,6 +18,8 @@ mod slices;
 mod whole;
 
 // For the program test_tablet, which calls each by position.
+pub use books::tablet_read_book;
+pub use books::tablet_write_book;
 pub use fits::tablet_fit_for;
 pub use fits::tablet_grid_score;
 pub use frames::tablet_grid;

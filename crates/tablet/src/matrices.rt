@@ -17,7 +17,8 @@ ghost use Rattle.frame.specs.Refusals.{numberOf};
 ghost use Rattle.homography.specs.Equations as dlt;
 ghost use Rattle.homography.specs.Homography as mat;
 ghost use Rattle.tablet.specs.Slices.{Answer, answered};
-ghost use Rattle.tablet.specs.Layouts.{quadOf, matrixOf, pointNumbers, matrixNumbers};
+ghost use Rattle.fit.specs.Numbers.{matrixOf, matrixNumbers};
+ghost use Rattle.tablet.specs.Layouts.{quadOf, pointNumbers};
 ghost use Rattle.tablet.specs.Tests.{productTests, moveTests, inverseTests, pointsTests, errorTests};
 
 // The matrix product a b.
@@ -30,8 +31,8 @@ pub extern "C" fn tablet_mat3_mul(a: &[f64], b: &[f64], result: &mut [f64]) -> u
     if short3(a.len(), 9, b.len(), 9, result.len(), 9) {
         return 3;
     }
-    let x = super::slices::matrix(a);
-    let y = super::slices::matrix(b);
+    let x = fit::internal::matrix_of(a);
+    let y = fit::internal::matrix_of(b);
     let p = homography::mat3_mul(&x.m, &y.m);
     store_matrix(result, p);
     0
@@ -47,7 +48,7 @@ pub extern "C" fn tablet_apply(matrix: &[f64], x: f64, y: f64, point: &mut [f64]
     if short(matrix.len(), 9, point.len(), 2) {
         return 3;
     }
-    let h = super::slices::matrix(matrix);
+    let h = fit::internal::matrix_of(matrix);
     let p = h.apply(Point { x: x, y: y });
     store_point(point, p);
     0
@@ -79,7 +80,7 @@ pub extern "C" fn tablet_inverse(matrix: &[f64], result: &mut [f64]) -> u32
     if short(matrix.len(), 9, result.len(), 9) {
         return 3;
     }
-    let h = super::slices::matrix(matrix);
+    let h = fit::internal::matrix_of(matrix);
     let s = h.inverse();
     answer(s, result)
 }

@@ -67,7 +67,7 @@ pub extern "C" fn tablet_warp_with(
     if fit.len() < 13 {
         return capture_first(capture, w, h, f);
     }
-    let t = super::slices::fit(fit);
+    let t = fit::internal::fit_of(fit);
     let v = geometry::warp_with(capture, w, h, f, t, canonical);
     number_of(v)
 }

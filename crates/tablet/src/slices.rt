@@ -1,19 +1,18 @@
 // Numbers out of slices, and into them.
 use fit::GeometryFit;
+use fit::internal::fit_numbers;
 use frame::Point;
 use frame::Quad;
-use homography::Homography;
 use homography::Mat3;
 use radial::Radial;
 ghost use mathlib.Core.Path.{_≡_};
 ghost use mathlib.Core.Bool.{false, _||_};
-ghost use mathlib.Core.List.{[], _∷_};
 ghost use Prim.Native.Nat.{_≤_};
 ghost use lib.Dec.{ltb};
 ghost use lib.ListN.{length};
 ghost use Rattle.tablet.specs.Slices.{written};
-ghost use Rattle.tablet.specs.Layouts.{quadOf, matrixOf, lensOf, fitOf, pointNumbers, quadNumbers};
-ghost use Rattle.tablet.specs.Layouts.{lensNumbers, matrixNumbers, fitNumbers};
+ghost use Rattle.tablet.specs.Layouts.{quadOf, lensOf, pointNumbers, quadNumbers};
+ghost use Rattle.fit.specs.Numbers.{lensNumbers, matrixNumbers, fitNumbers};
 
 // One of two slices, of a and b entries, is shorter than m or n.
 pub fn short(a: usize, m: usize, b: usize, n: usize) -> bool
@@ -30,18 +29,6 @@ pub fn short3(a: usize, m: usize, b: usize, n: usize, d: usize, k: usize) -> boo
 }
 
 // ---- out of a slice
-
-// Nine numbers as a matrix, by rows.
-pub fn matrix(l: &[f64]) -> Homography
-    requires { ⌜ 9 ≤ length (now l) ⌝ }
-    ensures { λ r. ⌜ r ≡ matrixOf (now (l .entry)) ⌝ }
-{
-    let mut m = [0.0; 9];
-    for i in 0..9 {
-        m[i] = l[i];
-    }
-    Homography::from_mat(m)
-}
 
 // Eight numbers as four points, x and y of TL, TR, BR, BL.
 pub fn quad(l: &[f64]) -> Quad
@@ -67,21 +54,6 @@ pub fn lens(l: &[f64]) -> Radial
         cy: l[2],
         norm: l[3],
     }
-}
-
-// Thirteen numbers as a fit: the matrix, then the lens.
-pub fn fit(l: &[f64]) -> GeometryFit
-    requires { ⌜ 13 ≤ length (now l) ⌝ }
-    ensures { λ r. ⌜ r ≡ fitOf (now (l .entry)) ⌝ }
-{
-    let h = matrix(l);
-    let lens = Radial {
-        k: l[9],
-        cx: l[10],
-        cy: l[11],
-        norm: l[12],
-    };
-    GeometryFit { h: h, radial: lens }
 }
 
 // ---- into a slice: the values go over its start
@@ -165,25 +137,6 @@ pub fn store_fit(out: &mut [f64], fit: GeometryFit)
     requires { ⌜ 13 ≤ length (now out) ⌝ }
     ensures { λ _. ⌜ now (out .exit) ≡ written (fitNumbers fit) (now (out .entry)) ⌝ }
 {
-    let h = fit.h;
-    let m = h.m;
-    let l = fit.radial;
-    store(
-        out,
-        &[
-            m[0],
-            m[1],
-            m[2],
-            m[3],
-            m[4],
-            m[5],
-            m[6],
-            m[7],
-            m[8],
-            l.k,
-            l.cx,
-            l.cy,
-            l.norm,
-        ],
-    );
+    let numbers = fit_numbers(fit);
+    store(out, &numbers);
 }

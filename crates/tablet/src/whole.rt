@@ -1,12 +1,12 @@
 // The whole way from capture to fit and card.
 use super::answers::capture_first;
-use super::answers::grade_number;
 use super::answers::number_of;
 use super::answers::outside_cell;
 use super::answers::untouched;
 use super::slices::short;
 use super::slices::store;
 use super::slices::store_counts;
+use fit::internal::grade_number;
 use fit::internal::score_of;
 use fit_geometry::PictureFit;
 use frame::FrameSpec;

@@ -6,8 +6,10 @@
 mod looks; // looks.rt: the functions that look at the whole capture
 mod print; // print.rt: words on lines
 
+use print::all_bytes;
 use print::bytes;
 use print::floats;
+use print::shorts;
 use print::word;
 use print::words;
 
@@ -35,6 +37,8 @@ fn main() {
     distort(&lens);
     undistort(&lens);
     rms_error(&centers, &points);
+    let book = write_book();
+    read_book(&book);
 }
 
 // ---- fits and readings
@@ -164,4 +168,40 @@ fn rms_error(a: &[f64; 8], b: &[f64; 8]) {
     let mut result = [0.0; 1];
     word(tablet::tablet_rms_error(a, b, &mut result) as u64);
     floats(&result, 0, 1);
+}
+
+// ---- books
+
+// A book of one record, from lists that are longer.
+fn write_book() -> [u8; 136] {
+    let heads = [7u32, 3, 1, 9];
+    let numbers = [
+        0x0706_0504_0302_0100u64,
+        0x1716_1514_1312_1110,
+        0x2726_2524_2322_2120,
+        0x3736_3534_3332_3130,
+        0x4746_4544_4342_4140,
+        0x5756_5554_5352_5150,
+        0x6766_6564_6362_6160,
+        0x7776_7574_7372_7170,
+        0x8786_8584_8382_8180,
+        0x9796_9594_9392_9190,
+        0xa7a6_a5a4_a3a2_a1a0,
+        0xb7b6_b5b4_b3b2_b1b0,
+        0xc7c6_c5c4_c3c2_c1c0,
+        0xd7d6_d5d4_d3d2_d1d0,
+    ];
+    let mut book = [9u8; 136];
+    word(tablet::tablet_write_book(&heads, &numbers, 1, &mut book) as u64);
+    all_bytes(&book);
+    book
+}
+
+// That record, into lists that are longer.
+fn read_book(book: &[u8; 136]) {
+    let mut heads = [9u32; 5];
+    let mut numbers = [9u64; 15];
+    word(tablet::tablet_read_book(book, &mut heads, &mut numbers) as u64);
+    shorts(&heads, 0, 5);
+    words(&numbers, 0, 15);
 }

@@ -1,3 +1,2 @@
 -- Lemmas that several proofs of `vectors` cite.
-mod Nans
 mod Lines

@@ -3,52 +3,25 @@
 pub mod sum; // sum.rt: checksums
 
 ghost use mathlib.Core.Path.{_≡_};
-ghost use Prim.Native.Nat.{_+_, _≤_, _<_};
-ghost use lib.ListN.{length, getD};
 ghost use lib.Ieee.{binary32, binary64, ofBits, toBits};
-ghost use Rattle.vectors.specs.Words.{littleEndian, wordOf, hexLine};
+ghost use Rattle.vectors.specs.Words.{wordOf, hexLine};
 
 // Word i of b, the lowest byte first, and 0 where b is too short to hold it.
 pub fn word(b: &[u8], i: usize) -> u64
     ensures { λ r. ⌜ r ≡ wordOf (now (b .entry)) i ⌝ }
 {
     if i < b.len() / 8 {
-        little_endian(b, i * 8)
+        base::internal::little_endian(b, i * 8, 8)
     } else {
         0
     }
-}
-
-fn little_endian(b: &[u8], p: usize) -> u64
-    requires { ⌜ p + 8 ≤ length (now b) ⌝ }
-    ensures { λ r. ⌜ r ≡ littleEndian (now (b .entry)) p ⌝ }
-{
-    byte(b, p)
-        + byte(b, p + 1) * 0x100
-        + byte(b, p + 2) * 0x1_0000
-        + byte(b, p + 3) * 0x100_0000
-        + byte(b, p + 4) * 0x1_0000_0000
-        + byte(b, p + 5) * 0x100_0000_0000
-        + byte(b, p + 6) * 0x1_0000_0000_0000
-        + byte(b, p + 7) * 0x100_0000_0000_0000
-}
-
-fn byte(b: &[u8], i: usize) -> u64
-    requires { ⌜ i < length (now b) ⌝ }
-    ensures { λ r. ⌜ (r ≡ getD (now (b .entry)) i 0) × (r < 256) ⌝ }
-{
-    b[i] as u64
 }
 
 // The bit pattern of x, and 0x7ff8000000000000 for every NaN.
 pub fn bits(x: f64) -> u64
     ensures { λ r. ⌜ r ≡ toBits binary64 x ⌝ }
 {
-    if x != x {
-        0x7ff8_0000_0000_0000
-    } else {
-        f64::to_bits(x)
-    }
+    float::to_bits(x)
 }
 
 // The bit pattern of x, and 0x7fc00000 for every NaN.
@@ -62,11 +35,7 @@ pub fn bits32(x: f32) -> u32
 pub fn double(p: u64) -> f64
     ensures { λ r. ⌜ r ≡ ofBits binary64 p ⌝ }
 {
-    if 0x7ff0_0000_0000_0000 < p % 0x8000_0000_0000_0000 {
-        0.0 / 0.0
-    } else {
-        f64::from_bits(p)
-    }
+    float::from_bits(p)
 }
 
 pub fn single(p: u32) -> f32

@@ -1,8 +1,9 @@
-//! Calls with frames, captures and areas of any numbers and lengths. The refusal must be the lowest number, what must stay
-//! untouched is compared byte by byte, and two runs must agree: the second has other garbage in areas of the smallest lengths.
+//! Calls with frames, captures, books and areas of any numbers and lengths. The refusal must be the lowest number (that of a book's
+//! reader the first of 14, 15, 3), what must stay untouched is compared byte by byte, and two runs must agree: the second has other
+//! garbage in areas of the smallest lengths.
 
 use crate::original;
-use crate::{kinds, pages, sizes, Case, Memory};
+use crate::{books, kinds, pages, sizes, Case, Memory};
 use flatten::{ffi, Frame};
 use scene::Random;
 
@@ -22,6 +23,8 @@ pub enum Function {
     Lengths,
     Bilinear,
     CandidatePage,
+    ReadBook,
+    WriteBook,
 }
 
 const FUNCTIONS: &[Function] = &[
@@ -42,7 +45,14 @@ const FUNCTIONS: &[Function] = &[
     Function::Lengths,
     Function::Bilinear,
     Function::CandidatePage,
+    Function::ReadBook,
+    Function::WriteBook,
 ];
+
+/// Those that are handed neither a frame nor a picture.
+fn apart(f: Function) -> bool {
+    matches!(f, Function::CandidatePage | Function::ReadBook | Function::WriteBook)
+}
 
 /// All that a call is handed.
 #[derive(Clone)]
@@ -58,6 +68,7 @@ struct Call {
     /// How many candidates, and the page for them.
     count: usize,
     page: Vec<u8>,
+    book: books::Call,
 }
 
 /// Captures with the original's answers.
@@ -98,8 +109,8 @@ fn lowest(c: &Call, seen: u32) -> u32 {
     let capture_bad = sides_bad || case.data.len() != 3 * case.w * case.h;
     if frame_bad || sides_bad {
         // Sizes can only be worked out inside the limits.
-        let frame_counts = !matches!(c.function, Function::LabelBlobs | Function::Bilinear | Function::CandidatePage);
-        let sides_count = !matches!(c.function, Function::MarkerCenters | Function::CandidatePage);
+        let frame_counts = !apart(c.function) && !matches!(c.function, Function::LabelBlobs | Function::Bilinear);
+        let sides_count = !apart(c.function) && c.function != Function::MarkerCenters;
         if frame_bad && frame_counts {
             return 1;
         }
@@ -158,6 +169,7 @@ fn lowest(c: &Call, seen: u32) -> u32 {
         Function::Lengths => vec![(3, counts < 11)],
         Function::Bilinear => vec![(2, capture_bad), (3, c.colour.len() < 3)],
         Function::CandidatePage => vec![(pages::text(&c.given, c.count, c.page.len()).err().unwrap_or(0), true)],
+        Function::ReadBook | Function::WriteBook => vec![(c.book.expected().0, true)],
     };
     tests.iter().filter(|(_, holds)| *holds).map(|(n, _)| *n).min().unwrap_or(0)
 }
@@ -180,6 +192,7 @@ fn run(c: &mut Call) -> u32 {
         Function::Lengths => ffi::lengths(w, h, f, &mut c.counts),
         Function::Bilinear => ffi::bilinear(capture, w, h, 1.25, 0.75, &mut c.colour),
         Function::CandidatePage => ffi::candidate_page(&c.given, c.count, &mut c.page),
+        Function::ReadBook | Function::WriteBook => c.book.run(),
     }
 }
 
@@ -230,6 +243,25 @@ fn page_call(r: &mut Random, wrong: f64) -> (Vec<f64>, usize, usize) {
     list.resize(list_len, f64::NAN);
     let far = [usize::MAX, 1 << 62, (1 << 62) + 1, 1 << 63, usize::MAX / 37 + 1];
     (list, if r.chance(0.2 * wrong) { r.one_of(&far) } else { count }, page_len)
+}
+
+/// Few records and their book. Now and then the count to be written is one off, or passes 2^64 times 3, 13 or 120.
+fn book_call(r: &mut Random, wrong: f64, function: Function) -> books::Call {
+    let count = r.one_of(&[0, 1, 2, 3, 4, 6]);
+    let mut c = books::drawn(r, count);
+    let far = [count + 1, count.saturating_sub(1), 35_791_394, usize::MAX, 1 << 61, (1 << 61) + 1, 1 << 63, usize::MAX / 3 + 1];
+    let writes = function == Function::WriteBook;
+    c.count = writes.then(|| if r.chance(wrong) { r.one_of(&far) } else { count });
+    if r.chance(4.0 * wrong) {
+        c.spoil(r);
+    }
+    // What lies past the count is not looked at.
+    c.heads.resize(length(r, 3 * count, wrong), u32::MAX);
+    c.numbers.resize(length(r, 13 * count, wrong), 0);
+    if writes {
+        c.book.resize(length(r, 16 + 120 * count, wrong), 0);
+    }
+    c
 }
 
 /// Most calls have nothing wrong or one thing; some have anything.
@@ -305,6 +337,7 @@ fn call(r: &mut Random, pool: &Pool) -> (Call, u32) {
     if function == Function::CandidatePage {
         (given, count, page_len) = page_call(r, wrong);
     }
+    let books = matches!(function, Function::ReadBook | Function::WriteBook);
     let c = Call {
         function,
         memory,
@@ -314,6 +347,7 @@ fn call(r: &mut Random, pool: &Pool) -> (Call, u32) {
         given,
         count,
         page: vec![0; page_len],
+        book: if books { book_call(r, wrong, function) } else { books::Call::default() },
         case,
     };
     // A call that passes 1 to 6 has the original's answer to what it is now handed.
@@ -342,6 +376,7 @@ fn shorten(c: &mut Call) {
         c.given.truncate(4 * c.count);
         c.page.truncate(37 * c.count);
     }
+    c.book.shorten();
 }
 
 fn garbage(c: &mut Call, r: &mut Random) {
@@ -359,6 +394,7 @@ fn garbage(c: &mut Call, r: &mut Random) {
     c.numbers.iter_mut().for_each(|v| *v = f64::from_bits(r.bits()));
     c.colour.iter_mut().for_each(|v| *v = r.bits() as u8);
     c.page.iter_mut().for_each(|v| *v = r.bits() as u8);
+    c.book.garbage(r);
     if c.function != Function::LabelBlobs {
         c.memory.mask.iter_mut().for_each(|v| *v = r.bits() as u8);
     }
@@ -367,7 +403,7 @@ fn garbage(c: &mut Call, r: &mut Random) {
 /// What a function may write: each area's written entries, from 0. All else stays.
 fn written(c: &Call, number: u32) -> (Written, [usize; 3], usize) {
     let nothing = Written { pixels: 0, integral: 0, patches: 0, candidates: 0, means: 0, page: 0 };
-    if matches!(number, 1..=6 | 12 | 13) {
+    if matches!(number, 1..=6 | 12..=15) {
         return (nothing, [0; 3], 0);
     }
     // A function that is not handed the frame, or the sides, can accept where they are outside their limits.
@@ -397,6 +433,8 @@ fn written(c: &Call, number: u32) -> (Written, [usize; 3], usize) {
         Function::Bilinear => (nothing, [0, 0, 3], 0),
         Function::StampFiducials => (nothing, [0; 3], 0),
         Function::CandidatePage => (Written { page: 37 * c.count, ..nothing }, [0; 3], 0),
+        // A book and its numbers are compared whole, with what they must be.
+        Function::ReadBook | Function::WriteBook => (nothing, [0; 3], 0),
     }
 }
 
@@ -426,6 +464,7 @@ fn untouched(before: &Call, after: &Call, number: u32) -> Result<(), String> {
     kept("numbers", &before.numbers, &after.numbers, numbers, f64::to_bits)?;
     kept("colour", &before.colour, &after.colour, colour, |v| v)?;
     kept("page", &before.page, &after.page, w.page, |v| v)?;
+    after.book.same(&before.book.expected().1)?;
     let stamped = before.function == Function::StampFiducials && number == 0;
     kept("capture", &before.case.data, &after.case.data, if stamped { before.case.data.len() } else { 0 }, |v| v)
 }
@@ -498,7 +537,7 @@ pub fn check(pool: &Pool, seed: u64) -> (Function, Result<u32, String>) {
             let before = c.clone();
             *number = run(c);
             if *number != wanted {
-                return Err(format!("refusal {number}, the lowest is {wanted}"));
+                return Err(format!("refusal {number}, it should be {wanted}"));
             }
             untouched(&before, c, *number)?;
         }

@@ -1,8 +1,8 @@
-//! Functions of numbers, compared one call at a time; the candidate page with a definition of its own (`pages`). A call is its
-//! name and 64-bit words, so that a file can hold it.
+//! Functions of numbers, compared one call at a time; the candidate page and the book of fits with definitions of their own
+//! (`pages`, `books`). A call is its name and 64-bit words, so that a file can hold it.
 
 use crate::original as o;
-use crate::{bits, pages, sampled};
+use crate::{bits, books, pages, sampled};
 use flatten::{ffi, Frame};
 use lpcore::geometry as g;
 use lpcore::image::RgbImage;
@@ -29,6 +29,8 @@ pub const FUNCTIONS: &[Function] = &[
     ("warp_with", 1, |r| picture_call(r, false)),
     ("stamp_fiducials", 1, stamp_call),
     ("candidate_page", 100, pages::call),
+    ("read_book", 100, books::call),
+    ("write_book", 100, books::call),
 ];
 
 const SPECIAL: &[f64] = &[
@@ -301,6 +303,8 @@ pub fn check(name: &str, w: &[u64]) -> Result<(), String> {
             bytes(&ours, &img.data)
         }
         "candidate_page" => pages::check_words(w),
+        "read_book" => books::check_words(w, true),
+        "write_book" => books::check_words(w, false),
         _ => Err("there is no such function".into()),
     }
 }

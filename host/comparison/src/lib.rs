@@ -1,4 +1,5 @@
 //! What the comparison, the benchmark and the capture files share.
+pub mod books;
 pub mod captures;
 pub mod clock;
 pub mod damage;
@@ -8,6 +9,7 @@ pub mod original;
 pub mod pages;
 
 use flatten::Frame;
+use scene::Random;
 
 /// A capture with the frame that it is read by.
 #[derive(Clone)]
@@ -24,6 +26,15 @@ pub fn bits(x: f64) -> u64 {
         f64::NAN.to_bits()
     } else {
         x.to_bits()
+    }
+}
+
+/// How many records a drawn list has: mostly below five, now and then about ten or a hundred.
+fn few(r: &mut Random) -> usize {
+    match r.below(50) {
+        0 => r.between(95, 105),
+        n if n < 5 => r.between(7, 12),
+        _ => r.below(5),
     }
 }
 

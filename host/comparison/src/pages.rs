@@ -1,6 +1,7 @@
 //! The candidate page, which the original does not have, against a definition of its own: all decimals of a number, rounded as a
 //! string.
 
+use crate::few;
 use flatten::ffi;
 use scene::Random;
 
@@ -162,11 +163,7 @@ pub fn spoil(r: &mut Random, list: &mut [f64]) {
 
 /// A call as words: the count, the page's length, the list.
 pub fn call(r: &mut Random) -> Vec<u64> {
-    let count = match r.below(50) {
-        0 => r.between(95, 105),
-        n if n < 5 => r.between(7, 12),
-        _ => r.below(5),
-    };
+    let count = few(r);
     let chances = r.one_of(&[[0.0, 0.0], [0.0, 0.0], [0.3, 0.0], [0.1, 0.2]]);
     let past = r.one_of(&[0, 0, 1]);
     let list = [list(r, count, chances), list(r, past, [0.0, 1.0])].concat();

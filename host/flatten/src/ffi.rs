@@ -38,6 +38,13 @@ pub const LENS_LEN: usize = 4;
 /// A line of the candidate page: 36 columns and a line feed.
 pub const PAGE_LINE_LEN: usize = 37;
 
+/// Bytes of a book of fits: before its first record, and of each.
+pub const BOOK_HEADER_LEN: usize = 16;
+pub const BOOK_RECORD_LEN: usize = 120;
+
+/// A record's panel, camera and grade.
+pub const BOOK_HEAD_LEN: usize = 3;
+
 /// The work areas of a look at the picture, in the order of the C functions.
 pub struct Areas<'a> {
     pub luma: &'a mut [f32],
@@ -139,6 +146,13 @@ mod c {
         ) -> u32;
         pub fn tablet_candidate_page(
             candidates: *const f64, candidates_len: usize, count: usize, page: *mut u8, page_len: usize,
+        ) -> u32;
+        pub fn tablet_read_book(
+            book: *const u8, book_len: usize, heads: *mut u32, heads_len: usize, numbers: *mut u64, numbers_len: usize,
+        ) -> u32;
+        pub fn tablet_write_book(
+            heads: *const u32, heads_len: usize, numbers: *const u64, numbers_len: usize,
+            count: usize, book: *mut u8, book_len: usize,
         ) -> u32;
     }
 }
@@ -345,4 +359,24 @@ pub fn rms_error(a: &[f64], b: &[f64], result: &mut [f64]) -> u32 {
 pub fn candidate_page(candidates: &[f64], count: usize, page: &mut [u8]) -> u32 {
     // SAFETY: both slices go with their own lengths, and the page is borrowed apart from the candidates.
     unsafe { c::tablet_candidate_page(candidates.as_ptr(), candidates.len(), count, page.as_mut_ptr(), page.len()) }
+}
+
+#[rustfmt::skip]
+pub fn read_book(book: &[u8], heads: &mut [u32], numbers: &mut [u64]) -> u32 {
+    // SAFETY: each slice goes with its own length; heads and numbers are borrowed apart from one another and from the book.
+    unsafe {
+        c::tablet_read_book(
+            book.as_ptr(), book.len(), heads.as_mut_ptr(), heads.len(), numbers.as_mut_ptr(), numbers.len(),
+        )
+    }
+}
+
+#[rustfmt::skip]
+pub fn write_book(heads: &[u32], numbers: &[u64], count: usize, book: &mut [u8]) -> u32 {
+    // SAFETY: each slice goes with its own length; the book is borrowed apart from heads and numbers, which are only read.
+    unsafe {
+        c::tablet_write_book(
+            heads.as_ptr(), heads.len(), numbers.as_ptr(), numbers.len(), count, book.as_mut_ptr(), book.len(),
+        )
+    }
 }

@@ -13,6 +13,7 @@
 #![deny(unsafe_code)]
 #![warn(clippy::undocumented_unsafe_blocks)]
 
+pub mod book;
 pub mod command;
 #[allow(unsafe_code)]
 pub mod ffi;

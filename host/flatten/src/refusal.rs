@@ -13,6 +13,8 @@ pub enum Responsible {
     Photographer,
     /// Whoever hands in points, a matrix or candidates.
     Points,
+    /// Whoever hands in the book.
+    Book,
 }
 
 /// The library's refusal of a call, by its number.
@@ -43,6 +45,7 @@ impl Refusal {
             1 | 5 => Responsible::Frame,
             2..=4 | 12 => Responsible::Host,
             6..=9 => Responsible::Photographer,
+            14 | 15 => Responsible::Book,
             _ => Responsible::Points,
         }
     }
@@ -63,6 +66,8 @@ impl Refusal {
             11 => "the matrix has no inverse: its determinant is too near 0",
             12 => "the memory for the candidate page is shorter than 37 bytes a candidate",
             13 => "there are more than 9999 candidates, or a number of theirs is negative, not finite or too wide for its columns",
+            14 => "the book's header, its length, a grade or a zero field is wrong, or it would be longer than 4294967295 bytes",
+            15 => "the book's keys, panel and then camera, do not rise",
             _ => "the library gives a number that this wrapper does not know",
         }
     }
@@ -92,6 +97,8 @@ impl Refusal {
                 "hand in at most 9999 candidates, no number below 0, centres below 99999.995, sizes below 9999.995 and scores \
                   below 9.9995"
             }
+            14 => "hand in a book that is whole and unchanged, or at most 35791393 records with grades 0, 1 or 2",
+            15 => "sort the records by panel and then camera, and keep one of each key",
             _ => "bring library and wrapper to the same version",
         }
     }
@@ -117,12 +124,16 @@ mod tests {
 
     #[test]
     fn each_number_has_words_and_somebody() {
-        let all: Vec<Refusal> = (1..=13).map(Refusal).collect();
+        let all: Vec<Refusal> = (1..=15).map(Refusal).collect();
         use Responsible::*;
-        let who = [Frame, Host, Host, Host, Frame, Photographer, Photographer, Photographer, Photographer, Points, Points, Host, Points];
-        assert_eq!(all.iter().map(|r| r.responsible()).collect::<Vec<_>>(), who);
+        let menders: [(_, &[u32]); 5] =
+            [(Frame, &[1, 5]), (Host, &[2, 3, 4, 12]), (Photographer, &[6, 7, 8, 9]), (Points, &[10, 11, 13]), (Book, &[14, 15])];
+        for (who, numbers) in menders {
+            let theirs: Vec<u32> = all.iter().filter(|r| r.responsible() == who).map(|r| r.number()).collect();
+            assert_eq!(theirs, numbers, "{who:?}");
+        }
         for words in [Refusal::why, Refusal::remedy] {
-            let unknown = words(Refusal(14));
+            let unknown = words(Refusal(16));
             for (i, &r) in all.iter().enumerate() {
                 assert!(words(r) != unknown && all[..i].iter().all(|&other| words(other) != words(r)), "{r}");
             }

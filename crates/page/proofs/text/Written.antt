@@ -2,15 +2,16 @@
 use mathlib.Core.Path.{_≡_, refl, sym, ap, _∙_}
 use mathlib.Core.List.{List, [], _∷_, _++_}
 use Prim.Native.Nat.{ℕ, _+_, _-_, _*_, _/_, _^_, _≤_}
-use native.Mathlib.Numerals.{add-one}
 use native.Mathlib.Omega.{arith}
 use lib.Ieee.{Float}
 use lib.ListN.{length, take, drop, set, length-append}
 use lib.Seq.{length-take-le, append-snoc}
 use borrow.Rule.Slice.PartMut.{midOf, putMid, mid-len}
+use Rattle.base.specs.Loops.{joined}
+use Rattle.base.proofs.Joined.{over-joined, over-joined-end}
 use Rattle.page.specs.Text.{blank, point, digit, leading, columns, whole, fieldOf, lineLength, lineOf, rowAt, pageText}
-use Rattle.page.proofs.Over.{over, over-set, over-part, over-first, over-whole, length-over}
-use Rattle.page.proofs.Texts.{columns-length, whole-part, field-part, line-length, page-length}
+use Rattle.base.proofs.Over.{Part, part-first, part-next, part-long, over, over-set, over-part, over-first, over-whole, length-over}
+use Rattle.page.proofs.Texts.{columns-length, whole-part, field-part, line-length}
 
 -- ---- a whole number and the letter after it: n columns x, the last digit d, the letter a
 pub whole-written : (l x : List ℕ) (q d a n : ℕ) → n + 2 ≡ length l → x ≡ columns leading (length (take n l)) (q / 10) → d ≡ digit q
@@ -59,51 +60,36 @@ field-written l x y q places scale a start end h k r s e f =
     front start end places k h r = omega arith
 
 -- ---- a line: after the text t, in the columns from n up to e, an amount and the letter after it
-pub record Part (t l b : List ℕ) (e : ℕ) : Type 0 where
-  pub written : b ≡ over t l
-  pub reached : length t ≡ e
-
 pub line-first : (l x : List ℕ) (rank n : ℕ) → 2 ≤ n → n ≤ length l → x ≡ whole (length (take n l) - 1) rank ++ (blank ∷ [])
     → Part (whole (n - 1) rank ++ (blank ∷ [])) l (x ++ drop n l) n
 line-first l x rank n h r e =
-    let is : x ≡ whole (n - 1) rank ++ (blank ∷ []) = e ∙ ap (λ i. whole (i - 1) rank ++ (blank ∷ [])) (length-take-le n l r) in
-    let long : length (whole (n - 1) rank ++ (blank ∷ [])) ≡ n = whole-part (n - 1) rank blank (omega arith) ∙ omega arith in
-    record { written = ap (λ z. z ++ drop n l) is ∙ over-first (whole (n - 1) rank ++ (blank ∷ [])) l n long; reached = long }
+    part-first (whole (n - 1) rank ++ (blank ∷ [])) l x n
+    (e ∙ ap (λ i. whole (i - 1) rank ++ (blank ∷ [])) (length-take-le n l r))
+    (whole-part (n - 1) rank blank (omega arith) ∙ omega arith)
 
 pub line-next : (t l b x : List ℕ) (n e places u q a : ℕ) → Part t l b n → n + places + 3 ≤ e → e ≤ length l → u ≡ q
     → x ≡ fieldOf (length (midOf n (e - n) b) - 1) places u ++ (a ∷ [])
     → Part (t ++ (fieldOf (e - n - 1) places q ++ (a ∷ []))) l (putMid n (e - n) b x) e
 line-next t l b x n e places u q a p h r v f =
-    let reached : length t ≡ n = p .reached in
-    let long : length b ≡ length l = ap length (p .written) ∙ length-over t l (omega arith) in
-    let y = fieldOf (e - n - 1) places q ++ (a ∷ []) in
-    let is : x ≡ y =
-    f ∙ ap (λ i. fieldOf (i - 1) places u ++ (a ∷ [])) (mid-len n e b (omega arith)) ∙ ap (λ z. fieldOf (e - n - 1) places z ++ (a ∷ [])) v in
-    let y-long : length y ≡ e - n = field-part (e - n - 1) places q a (omega arith) ∙ omega arith in
-    record {
-      written = ap (putMid n (e - n) b) is ∙ over-part t l b y n e (p .written) (sym reached) (omega arith) y-long;
-      reached = length-append t y ∙ omega arith;
-    }
-
-pub line-whole : (t l b : List ℕ) (e : ℕ) → Part t l b e → e ≡ length l → b ≡ t
-line-whole t l b e p h = over-whole t l b (p .written) (p .reached ∙ h)
+    let long : length b ≡ length l = part-long t l b n p (omega arith) in
+    part-next t l b (fieldOf (e - n - 1) places q ++ (a ∷ [])) x n e p (omega arith)
+    (f ∙ ap (λ i. fieldOf (i - 1) places u ++ (a ∷ [])) (mid-len n e b (omega arith)) ∙ ap (λ z. fieldOf (e - n - 1) places z ++ (a ∷ [])) v)
+    (field-part (e - n - 1) places q a (omega arith) ∙ omega arith)
 
 -- ---- the page: line i after the lines before it
 module _ (c : List Float) (l : List ℕ) where
+  lines-long : (i : ℕ) → length (lineOf (i + 1) (rowAt c i)) ≡ lineLength
+  lines-long i = line-length (i + 1) (rowAt c i)
+
   pub page-begin : l ≡ over (pageText c 0) l
-  unfolding pageText
+  unfolding joined
   page-begin = refl
 
   pub page-next : (b x : List ℕ) (i : ℕ) → b ≡ over (pageText c i) l → x ≡ lineOf (i + 1) (rowAt c i)
       → putMid (37 * i) (37 * i + 37 - 37 * i) b x ≡ over (pageText c (i + 1)) l
-  page-next b x i h e =
-      over-part (pageText c i) l b x (37 * i) (37 * i + 37) h (sym (page-length c i)) (omega arith)
-      (ap length e ∙ line-length (i + 1) (rowAt c i) ∙ omega arith)
-      ∙ ap (λ z. over (pageText c i ++ z) l) e
-      ∙ ap (λ z. over z l) (sym (more i))
-    where
-      more : (i : ℕ) → pageText c (i + 1) ≡ pageText c i ++ lineOf (i + 1) (rowAt c i)
-      more i = ap (pageText c) (add-one i) ∙ unfold pageText in refl
+  page-next b x i h e = over-joined _ lineLength lines-long [] l b x (37 * i) i h (omega arith) e
 
   pub page-end : (b : List ℕ) (i n : ℕ) → b ≡ over (pageText c i) l → i ≡ n → b ≡ pageText c n ++ drop (lineLength * n) l
-  page-end b i n h e = h ∙ ap (λ k. pageText c i ++ drop k l) (page-length c i) ∙ ap (λ k. pageText c k ++ drop (lineLength * k) l) e
+  page-end b i n h e =
+      let z : 0 + lineLength * n ≡ lineLength * n = omega arith in
+      over-joined-end _ lineLength lines-long [] l b i n h e ∙ ap (λ k. pageText c n ++ drop k l) z

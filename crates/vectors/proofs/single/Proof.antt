@@ -1,7 +1,7 @@
 -- `vectors::single` meets its contract. Assumes nothing.
 use mathlib.Core.Path.{_≡_, refl, _∙_}
 use lib.Ieee.{nan, binary32, div, ofBits}
-use Rattle.vectors.proofs.Nans.{nan-pattern, other-pattern}
+use Rattle.float.proofs.Nans.{nan-pattern, other-pattern}
 use Rattle.vectors.proofs.single.Statement.{statement}
 use Rattle.vectors.proofs.single.Tie as tie
 

@@ -13,7 +13,7 @@ little-endian-requires c κs = search needs
 
 returns : tie.Need-returns
 unfolding wordOf
-returns c = rw (lt-ltb _ _ (c .before .if1 .taken)) (c .little-endian .ensures)
+returns c = rw (lt-ltb _ _ (c .before .if1 .taken)) (c .little-endian .ensures .0)
 
 returns-2 : tie.Need-returns-2
 unfolding wordOf

@@ -4,8 +4,9 @@
 //
 // stdin is the capture's bytes. stdout has the answers' words, one a line, in hexadecimal: each call's refusal number, and
 // then what it wrote. Of the areas some entries are printed, of bytes every sixteenth word of eight, of the candidate page
-// all. The number of waiting pixels is not the original's, and left out. The smallest lengths are those of
-// docs/REQUIREMENTS.md, 3.1. The original has no candidate page: its text is made here, from the original's candidates.
+// and of the book of fits all. The number of waiting pixels is not the original's, and left out. The smallest lengths are
+// those of docs/REQUIREMENTS.md, 3.1. The original has no candidate page: its text is made here, from the original's
+// candidates. Nor has it a book of fits: its bytes are made here by to_le_bytes.
 use lpcorepub::frame::FrameSpec;
 use lpcorepub::geometry::{
     adaptive_black_mask, bilinear, detect_fiducials, fiducial_candidates, fit_for, fit_geometry, grid_score, label_blobs, luma_plane,
@@ -35,6 +36,12 @@ fn floats(v: &mut Vectors, numbers: &[f64]) {
 // Every sixteenth word of eight bytes, the lowest byte first.
 fn bytes(v: &mut Vectors, b: &[u8]) {
     for chunk in b.chunks_exact(8).step_by(16) {
+        v.word(u64::from_le_bytes(chunk.try_into().unwrap()));
+    }
+}
+
+fn all_bytes(v: &mut Vectors, b: &[u8]) {
+    for chunk in b.chunks_exact(8) {
         v.word(u64::from_le_bytes(chunk.try_into().unwrap()));
     }
 }
@@ -141,9 +148,25 @@ fn page(v: &mut Vectors, candidates: &[Candidate]) {
     assert_eq!(area.len(), 4 * 37);
     area.resize(224, 9);
     v.word(0);
-    for chunk in area.chunks_exact(8) {
-        v.word(u64::from_le_bytes(chunk.try_into().unwrap()));
-    }
+    all_bytes(v, &area);
+}
+
+// ---- the book of fits
+
+// One record written; and read, the rest of both lists as it was.
+fn book(v: &mut Vectors) {
+    let head = [7u32, 3, 1];
+    let numbers: [u64; 13] = std::array::from_fn(|i| 0x0706_0504_0302_0100 + 0x1010_1010_1010_1010 * i as u64);
+    let mut bytes: Vec<u8> = [1, 16, 120, 136].iter().chain(&head).chain(&[0]).flat_map(|n: &u32| n.to_le_bytes()).collect();
+    bytes.extend(numbers.iter().flat_map(|n| n.to_le_bytes()));
+    assert_eq!(bytes.len(), 136);
+    v.word(0);
+    all_bytes(v, &bytes);
+    v.word(0);
+    words(v, &head.map(|n| n as usize));
+    words(v, &[9, 9]);
+    words(v, &numbers.map(|n| n as usize));
+    words(v, &[9, 9]);
 }
 
 // ---- the calls
@@ -250,5 +273,6 @@ fn main() {
     let fit = fits(&mut v, &img, &f, &points);
     frames(&mut v, &f);
     matrices(&mut v, &f, &points, &fit);
+    book(&mut v);
     v.write("test_tablet");
 }

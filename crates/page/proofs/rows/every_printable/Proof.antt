@@ -8,7 +8,7 @@ use Prim.Native.Nat.{_≤_, _-_}
 use denote.Ref.{now}
 use Rattle.page.specs.Text.{rowAt}
 use Rattle.page.specs.Contracts.{rowPrintable, everyPrintable}
-use Rattle.page.proofs.Printing.{every-begin, every-more, every-stops}
+use Rattle.base.proofs.Every.{every-begin, every-more, every-stops, every-end}
 use Rattle.page.proofs.rows.every_printable.Statement.{statement}
 use Rattle.page.proofs.rows.every_printable.Tie as tie
 
@@ -36,7 +36,7 @@ returns : tie.Need-returns Inv-loop μ-loop
 returns c =
     let k = c .before .before .before .before .loop in
     let s = c .before .before .before .before .before .before in
-    sym (every-stops (now (s .args .candidates)) (k .i) (s .args .count) (omega arith) (printed (c .before) ∙ not-true _ (c .if1 .taken)))
+    sym (every-stops _ (k .i) (s .args .count) (omega arith) (printed (c .before) ∙ not-true _ (c .if1 .taken)))
 
 add-i : tie.Need-add-i Inv-loop μ-loop
 add-i c = search needs
@@ -53,7 +53,7 @@ returns-2 : tie.Need-returns-2 Inv-loop μ-loop
 returns-2 c =
     let k = c .before .loop in
     let e : k .i ≡ c .before .before .before .args .count = omega arith in
-    sym (ap (everyPrintable _) (sym e) ∙ k .inv .0)
+    sym (every-end _ (k .i) _ (k .inv .0) e)
 
 pub every-printable-spec : {M : Type 1} → statement M
 every-printable-spec =

@@ -7,7 +7,8 @@ use denote.Ref.{now}
 use Rattle.page.specs.Amounts.{unitsOf}
 use Rattle.page.specs.Text.{blank, feed, lineOf}
 use lib.Seq.{length-take-le}
-use Rattle.page.proofs.text.Written.{line-first, line-next, line-whole}
+use Rattle.base.proofs.Over.{part-whole}
+use Rattle.page.proofs.text.Written.{line-first, line-next}
 use Rattle.page.proofs.text.put_line.Statement.{statement}
 use Rattle.page.proofs.text.put_line.Tie as tie
 
@@ -108,7 +109,7 @@ returns c =
     let p4 =
     line-next _ l _ (c4 .put-field4 .last .0) 31 37 3 _ (unitsOf 1000 (a .row .score)) feed p3 (omega arith) (omega arith)
     (c4 .before .units4 .ensures) (c4 .put-field4 .ensures) in
-    line-whole _ l _ 37 p4 (sym long)
+    part-whole _ l _ 37 p4 (sym long)
 
 pub put-line-spec : {M : Type 1} → statement M
 put-line-spec =

@@ -5,10 +5,10 @@ use mathlib.Core.Path.{subst}
 use borrow.Rule.Slice.PartMut.{mid-len, same-len-mid}
 use Rattle.page.specs.Steps.{AllNarrow}
 use Rattle.page.specs.Text.{lineOf, pageText}
-use Rattle.page.proofs.Meaning.{every-one}
+use Rattle.base.proofs.Every.{every-one}
 use Rattle.page.proofs.Printing.{row-narrow}
 use Rattle.page.proofs.text.Written.{page-begin, page-next, page-end}
-use Rattle.page.proofs.Over.{over}
+use Rattle.base.proofs.Over.{over}
 use native.Mathlib.Omega.{arith}
 use Prim.Native.Nat.{_≤_, _+_, _*_, _-_}
 use mathlib.Core.Path.{_≡_, refl, sym, ap, _∙_}
@@ -52,7 +52,7 @@ put-line-requires c κs =
     let s = c .before .before .before .before .before .before in
     let r : 37 * k .i + 37 ≤ length (k .page) = omega (arith, s .pre .held) in (
       mid-len (37 * k .i) (37 * k .i + 37) (k .page) r ∙ omega arith,
-      subst AllNarrow (sym (c .before .row-at .ensures)) (row-narrow _ (every-one (now (s .args .candidates)) (s .args .count) (s .pre .printable) (k .i) (omega arith))),
+      subst AllNarrow (sym (c .before .row-at .ensures)) (row-narrow _ (every-one _ (s .args .count) (s .pre .printable) (k .i) (omega arith))),
     )
 
 add-i : tie.Need-add-i Inv-loop μ-loop

@@ -2,7 +2,8 @@
 use Rattle.tablet.proofs.Given.{fitted-number, fitted-fit}
 use Rattle.tablet.proofs.Laws.{accepted, numbered, lowest-without, lowest-until}
 use Rattle.tablet.specs.Tests.{fitTests, sidesFirst}
-use Rattle.tablet.specs.Layouts.{frame, quadOf, fitNumbers}
+use Rattle.fit.specs.Numbers.{fitNumbers}
+use Rattle.tablet.specs.Layouts.{frame, quadOf}
 use Rattle.tablet.specs.Slices.{written}
 use Rattle.fit.specs.declared.Fitted.{Fitted}
 use Rattle.fit.specs.Fits.{fitFor, fitsFor}

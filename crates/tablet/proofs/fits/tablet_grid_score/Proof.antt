@@ -1,7 +1,8 @@
 -- `tablet::fits::tablet_grid_score` meets its contract. Assumes nothing.
 use Rattle.tablet.proofs.Given.{scoring, scored-grade, refused-positive}
 use Rattle.tablet.proofs.Laws.{over-short, over-done, answered-refused}
-use Rattle.tablet.specs.Layouts.{frame, fitOf, gradeNumber, outsideCell, gradeNumbers}
+use Rattle.fit.specs.Numbers.{fitOf, gradeNumber}
+use Rattle.tablet.specs.Layouts.{frame, outsideCell, gradeNumbers}
 use Rattle.tablet.specs.Slices.{written, answered}
 use Rattle.fit.specs.Grid.{gradeOf, scoreOf}
 use Rattle.fit.specs.Contracts.{scoreNumber}
@@ -21,8 +22,8 @@ capture-first-requires c κs = search needs
 returns : tie.Need-returns
 returns c = over-short (sym (c .before .before .short3 .ensures .0) ∙ c .before .if1 .taken) (c .capture-first .ensures) (refl, refl, refl)
 
-fit-requires : tie.Need-fit-requires
-fit-requires c κs = (c .before .short3 .ensures .1 (c .if1 .left)) .0
+fit-of-requires : tie.Need-fit-of-requires
+fit-of-requires c κs = (c .before .short3 .ensures .1 (c .if1 .left)) .0
 
 grid-score-requires : tie.Need-grid-score-requires
 grid-score-requires c κs = search needs
@@ -70,7 +71,7 @@ returns-2 c =
     let e = c .before .a .given .1 in
     let p = refused-positive _ _ _ (sym e ∙ s .given) in
     over-done (sym (b .before .before .short3 .ensures .0) ∙ b .before .if1 .left) (record {
-      scoring = scoring _ _ _ _ _ _ _ _ (b .fit .ensures) (sym
+      scoring = scoring _ _ _ _ _ _ _ _ (b .fit-of .ensures) (sym
           (ap scoreNumber e)) s;
       grade-is = answered-refused _ _ p;
       score-is = answered-refused _ _ p;
@@ -96,11 +97,11 @@ returns-3 c =
     let s = b .before .before .before .before .before .before .before .before .before .before .grid-score .ensures in
     let e = b .before .before .before .before .before .before .a2 .given .1 in
     let g = scored-grade _ _ _ (sym e ∙ s .given) ∙ ap (gradeOf img f) (b .before .before .before .before .before .before .before .before .before
-    .before .before .before .fit .ensures) in
+    .before .before .before .fit-of .ensures) in
     over-done (sym (b .before .before .before .before .before .before .before .before .before .before .before .before .before .before .short3 .ensures
     .0) ∙ b .before .before .before .before .before .before .before .before .before .before .before .before .before .if1 .left) (record {
       scoring =
-          scoring _ _ _ _ _ _ _ _ (b .before .before .before .before .before .before .before .before .before .before .before .before .fit .ensures) (sym (ap
+          scoring _ _ _ _ _ _ _ _ (b .before .before .before .before .before .before .before .before .before .before .before .before .fit-of .ensures) (sym (ap
           scoreNumber e)) s;
       grade-is = b .store-counts .ensures ∙ ap (λ n. written (n ∷ b .before .before .outside-cell .result ∷ []) (a .grade .now)) (b
           .before .before .before .grade-number .ensures ∙ ap gradeNumber g) ∙ ap (λ n. written (gradeNumber (gradeOf img f (fitOf (a .fit .now))) ∷ n ∷ [])
@@ -116,7 +117,7 @@ tablet-grid-score-spec =
     short3-requires
     capture-first-requires
     returns
-    fit-requires
+    fit-of-requires
     grid-score-requires
     enum-known-a
     enum-known-a-2

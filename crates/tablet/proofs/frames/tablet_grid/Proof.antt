@@ -1,9 +1,9 @@
 -- `tablet::frames::tablet_grid` meets its contract. Assumes nothing.
-use Rattle.tablet.proofs.Laws.{refused, accepted, refused-before, lowest-past}
+use Rattle.tablet.proofs.Laws.{refused, accepted, refused-before}
 use Rattle.tablet.specs.Tests.{cellsTests}
 use Rattle.tablet.specs.Layouts.{frame}
 use Rattle.tablet.specs.Slices.{written}
-use Rattle.frame.proofs.Lowest.{lowest-first, lowest-next, lowest-none, frame-rising}
+use Rattle.frame.proofs.Lowest.{lowest-first, lowest-next, lowest-none, lowest-past, frame-rising}
 use Rattle.frame.proofs.Given.{number-number, number-value}
 use Rattle.frame.specs.Frame as spec
 use Rattle.frame.specs.Refusals.{lowestOf, frameTests}

@@ -1,8 +1,8 @@
 -- `tablet::frames::tablet_marker_numbers` meets its contract. Assumes nothing.
-use Rattle.tablet.proofs.Laws.{refused, accepted, refused-before, lowest-past}
+use Rattle.tablet.proofs.Laws.{refused, accepted, refused-before}
 use Rattle.tablet.specs.Tests.{markerTests}
 use Rattle.tablet.specs.Slices.{written}
-use Rattle.frame.proofs.Lowest.{lowest-first, lowest-next, lowest-none}
+use Rattle.frame.proofs.Lowest.{lowest-first, lowest-next, lowest-none, lowest-past}
 use Rattle.frame.proofs.Given.{number-number, number-value}
 use Rattle.markers.proofs.Given.{cell-rising}
 use Rattle.markers.specs.Layout.{markerSize, quietZone}

@@ -1,11 +1,11 @@
 -- `tablet::lens::tablet_radial` meets its contract. Assumes nothing.
-use Rattle.tablet.proofs.Laws.{refused, accepted, refused-before, lowest-past}
+use Rattle.tablet.proofs.Laws.{refused, accepted, refused-before}
 use Rattle.tablet.specs.Tests.{lensTests}
-use Rattle.tablet.specs.Layouts.{lensNumbers}
+use Rattle.fit.specs.Numbers.{lensNumbers}
 use Rattle.tablet.specs.Slices.{written}
 use Rattle.radial.proofs.Sides.{lens-number, lens-value}
 use Rattle.radial.specs.Lens.{radial, newLens, lensAs, lensRefusal, lensValue}
-use Rattle.frame.proofs.Lowest.{lowest-first, lowest-next, lowest-none, side-rising}
+use Rattle.frame.proofs.Lowest.{lowest-first, lowest-next, lowest-none, lowest-past, side-rising}
 use Rattle.frame.specs.Refusals.{lowestOf, sideTests}
 use borrow.Author.Tests.{lt-ltb, le-ltb}
 use mathlib.Core.Path.{_≡_, sym, ap, _∙_}

@@ -18,8 +18,8 @@ returns : tie.Need-returns
 unfolding moveTests
 returns c = refused _ _ _ 2 (lowest-first 3 _ _ (sym (c .before .short .ensures .0) ∙ c .if1 .taken))
 
-matrix-requires : tie.Need-matrix-requires
-matrix-requires c κs = (c .before .short .ensures .1 (c .if1 .left)) .0
+matrix-of-requires : tie.Need-matrix-of-requires
+matrix-of-requires c κs = (c .before .short .ensures .1 (c .if1 .left)) .0
 
 apply-requires : tie.Need-apply-requires
 apply-requires c κs = search needs
@@ -37,7 +37,7 @@ returns-2 c =
     accepted _ _ _ (lowest-next 3 _ _ (sym (c .before .before .before .before .before .before .before .short .ensures .0)
     ∙ c .before .before .before .before .before .before .if1 .left) ∙ lowest-none)
     (c .before .before .store-point .ensures ∙ ap (λ p. written (pointNumbers p) (a .point .now)) (c .before .before .before .before .apply
-    .ensures ∙ ap (λ l. model.apply l (record { x = a .x; y = a .y })) (c .before .before .before .before .before .matrix .ensures)))
+    .ensures ∙ ap (λ l. model.apply l (record { x = a .x; y = a .y })) (c .before .before .before .before .before .matrix-of .ensures)))
 
 pub tablet-apply-spec : {M : Type 1} → statement M
 tablet-apply-spec =
@@ -45,7 +45,7 @@ tablet-apply-spec =
     (tie.spec
     short-requires
     returns
-    matrix-requires
+    matrix-of-requires
     apply-requires
     store-point-requires
     same-length

@@ -1,5 +1,6 @@
 -- `tablet::matrices::tablet_from_points` meets its contract. Assumes nothing.
-use Rattle.tablet.specs.Layouts.{matrixNumbers, quadOf}
+use Rattle.fit.specs.Numbers.{matrixNumbers}
+use Rattle.tablet.specs.Layouts.{quadOf}
 use Rattle.homography.specs.declared.Solved.{Solved}
 use Rattle.homography.specs.Equations as dlt
 use Rattle.tablet.proofs.Solved.{points-number}

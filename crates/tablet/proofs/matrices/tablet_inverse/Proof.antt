@@ -1,5 +1,5 @@
 -- `tablet::matrices::tablet_inverse` meets its contract. Assumes nothing.
-use Rattle.tablet.specs.Layouts.{matrixNumbers}
+use Rattle.fit.specs.Numbers.{matrixNumbers}
 use Rattle.homography.specs.declared.Solved.{Solved}
 use Rattle.homography.specs.Homography as mat
 use Rattle.tablet.proofs.Solved.{inverse-number}
@@ -19,8 +19,8 @@ returns : tie.Need-returns
 unfolding inverseTests
 returns c = refused _ _ _ 2 (lowest-first 3 _ _ (sym (c .before .short .ensures .0) ∙ c .if1 .taken))
 
-matrix-requires : tie.Need-matrix-requires
-matrix-requires c κs = (c .before .short .ensures .1 (c .if1 .left)) .0
+matrix-of-requires : tie.Need-matrix-of-requires
+matrix-of-requires c κs = (c .before .short .ensures .1 (c .if1 .left)) .0
 
 inverse-requires : tie.Need-inverse-requires
 inverse-requires c κs = search needs
@@ -35,7 +35,7 @@ returns-2 : tie.Need-returns-2
 unfolding inverseTests
 returns-2 c =
     let a = c .before .before .before .before .before .before .before .before .before .before .args in
-    let s = c .before .before .before .before .inverse .ensures ∙ ap mat.inverse (c .before .before .before .before .before .matrix .ensures) in
+    let s = c .before .before .before .before .inverse .ensures ∙ ap mat.inverse (c .before .before .before .before .before .matrix-of .ensures) in
     let n = c .before .before .answer .ensures in
     record {
       number = n .0 ∙ inverse-number _ _ s ∙ sym (lowest-next 3 _ _ (sym (c .before .before .before .before .before .before .before .short
@@ -49,7 +49,7 @@ tablet-inverse-spec =
     (tie.spec
     short-requires
     returns
-    matrix-requires
+    matrix-of-requires
     inverse-requires
     answer-requires
     same-length

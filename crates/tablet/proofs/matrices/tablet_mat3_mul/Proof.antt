@@ -1,5 +1,5 @@
 -- `tablet::matrices::tablet_mat3_mul` meets its contract. Assumes nothing.
-use Rattle.tablet.specs.Layouts.{matrixOf, matrixNumbers}
+use Rattle.fit.specs.Numbers.{matrixOf, matrixNumbers}
 use mathlib.Core.Path.{sym, ap, _∙_}
 use Rattle.tablet.specs.Slices.{written}
 use Rattle.homography.specs.declared.Homography.{Homography}
@@ -19,11 +19,11 @@ returns : tie.Need-returns
 unfolding productTests
 returns c = refused _ _ _ 2 (lowest-first 3 _ _ (sym (c .before .short3 .ensures .0) ∙ c .if1 .taken))
 
-matrix-requires : tie.Need-matrix-requires
-matrix-requires c κs = (c .before .short3 .ensures .1 (c .if1 .left)) .0
+matrix-of-requires : tie.Need-matrix-of-requires
+matrix-of-requires c κs = (c .before .short3 .ensures .1 (c .if1 .left)) .0
 
-matrix-requires-2 : tie.Need-matrix-requires-2
-matrix-requires-2 c κs = (c .before .before .short3 .ensures .1 (c .before .if1 .left)) .1
+matrix-of-requires-2 : tie.Need-matrix-of-requires-2
+matrix-of-requires-2 c κs = (c .before .before .short3 .ensures .1 (c .before .if1 .left)) .1
 
 mat3-mul-requires : tie.Need-mat3-mul-requires
 mat3-mul-requires c κs = search needs
@@ -40,11 +40,11 @@ unfolding productTests
 returns-2 c =
     let b = c .before .before .before .before .before .before .before .before .before in
     let a = b .before .before .before .before .before .before .before .args in
-    let y = b .matrix2 .result .m in
+    let y = b .matrix-of2 .result .m in
     accepted _ _ _ (lowest-next 3 _ _ (sym (b .before .before .before .short3 .ensures .0) ∙ b .before .before .if1 .left) ∙ lowest-none) (c .before
     .before .store-matrix .ensures ∙ ap (λ m. written (matrixNumbers m) (a .result .now)) (c .before .before .before .before .mat3-mul .ensures ∙ ap
-    (λ (h : Homography). mat3Mul (h .m) y) (b .before .matrix .ensures) ∙ ap (λ (h : Homography). mat3Mul (matrixOf (a .a .now) .m) (h .m)) (b
-    .matrix2 .ensures)))
+    (λ (h : Homography). mat3Mul (h .m) y) (b .before .matrix-of .ensures) ∙ ap (λ (h : Homography). mat3Mul (matrixOf (a .a .now) .m) (h .m)) (b
+    .matrix-of2 .ensures)))
 
 pub tablet-mat3-mul-spec : {M : Type 1} → statement M
 tablet-mat3-mul-spec =
@@ -52,8 +52,8 @@ tablet-mat3-mul-spec =
     (tie.spec
     short3-requires
     returns
-    matrix-requires
-    matrix-requires-2
+    matrix-of-requires
+    matrix-of-requires-2
     mat3-mul-requires
     store-matrix-requires
     same-length

@@ -1,11 +1,11 @@
 -- `tablet::pictures::tablet_bilinear` meets its contract. Assumes nothing.
-use Rattle.tablet.proofs.Laws.{refused, accepted, refused-before, lowest-past}
+use Rattle.tablet.proofs.Laws.{refused, accepted, refused-before}
 use Rattle.tablet.specs.Tests.{colourTests}
 use Rattle.tablet.specs.Layouts.{colourNumbers}
 use Rattle.tablet.specs.Slices.{written}
 use Rattle.sampling.proofs.Given.{colour-number, colour-value}
 use Rattle.sampling.specs.Answers.{colourRefusal, colourValue, colourFor}
-use Rattle.frame.proofs.Lowest.{lowest-first, lowest-next, lowest-none, capture-rising}
+use Rattle.frame.proofs.Lowest.{lowest-first, lowest-next, lowest-none, lowest-past, capture-rising}
 use Rattle.frame.specs.declared.Rgb.{Rgb}
 use Rattle.frame.specs.Refusals.{lowestOf, captureTests}
 use Rattle.frame.specs.Image.{image}

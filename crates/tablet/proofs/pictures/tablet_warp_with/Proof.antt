@@ -13,8 +13,8 @@ capture-first-requires c κs = search needs
 returns : tie.Need-returns
 returns c = over-short (lt-ltb _ _ (c .before .if1 .taken)) (c .capture-first .ensures) refl
 
-fit-requires : tie.Need-fit-requires
-fit-requires c κs = search needs
+fit-of-requires : tie.Need-fit-of-requires
+fit-of-requires c κs = search needs
 
 warp-with-requires : tie.Need-warp-with-requires
 warp-with-requires c κs = search needs
@@ -27,7 +27,7 @@ same-length c = search needs
 
 returns-2 : tie.Need-returns-2
 returns-2 c = over-done (le-ltb _ _ (c .before .before .before .before .before .before .if1 .left)) (warping _ _ _ _ _ _ _ _
-    (c .before .before .before .before .before .fit .ensures) (c .number-of .ensures) (c .before .before .before .warp-with .ensures))
+    (c .before .before .before .before .before .fit-of .ensures) (c .number-of .ensures) (c .before .before .before .warp-with .ensures))
 
 pub tablet-warp-with-spec : {M : Type 1} → statement M
 tablet-warp-with-spec =
@@ -35,7 +35,7 @@ tablet-warp-with-spec =
     (tie.spec
     capture-first-requires
     returns
-    fit-requires
+    fit-of-requires
     warp-with-requires
     number-of-requires
     same-length

@@ -1,63 +1,40 @@
 -- `tablet::slices::store_fit` meets its contract. Assumes nothing.
-use Rattle.tablet.specs.Layouts.{fitNumbers, matrixNumbers, lensNumbers}
+use mathlib.Core.List.{List}
+use lib.Ieee.{Float}
+use denote.Ref.{now}
+use Rattle.fit.specs.Numbers.{fitNumbers, matrixNumbers, lensNumbers}
+use Rattle.fit.specs.declared.GeometryFit.{GeometryFit}
+use Rattle.tablet.specs.Slices.{written}
+use native.Mathlib.Omega.{arith}
+use mathlib.Core.Path.{_≡_, sym, ap, _∙_}
+use lib.ListN.{length}
 use borrow.Author.Needs.{needs}
 use Rattle.tablet.proofs.slices.store_fit.Statement.{statement}
 use Rattle.tablet.proofs.slices.store_fit.Tie as tie
 
-array-read-t12 : tie.Need-array-read-t12
-array-read-t12 c = search needs
+fit-numbers-requires : tie.Need-fit-numbers-requires
+fit-numbers-requires c κs = search needs
 
-array-read-t15 : tie.Need-array-read-t15
-array-read-t15 c = search needs
-
-array-read-t18 : tie.Need-array-read-t18
-array-read-t18 c = search needs
-
-array-read-t21 : tie.Need-array-read-t21
-array-read-t21 c = search needs
-
-array-read-t24 : tie.Need-array-read-t24
-array-read-t24 c = search needs
-
-array-read-t27 : tie.Need-array-read-t27
-array-read-t27 c = search needs
-
-array-read-t30 : tie.Need-array-read-t30
-array-read-t30 c = search needs
-
-array-read-t33 : tie.Need-array-read-t33
-array-read-t33 c = search needs
-
-array-read-t36 : tie.Need-array-read-t36
-array-read-t36 c = search needs
+-- the numbers are thirteen
+thirteen : (l : List Float) (t : GeometryFit) → l ≡ fitNumbers t → length l ≡ 13
+unfolding fitNumbers matrixNumbers lensNumbers
+thirteen l t e = ap length e
 
 slice-aggregate-store : tie.Need-slice-aggregate-store
-slice-aggregate-store c = search needs
+slice-aggregate-store c = sym (thirteen _ _ (c .before .before .fit-numbers .ensures))
 
 store-requires : tie.Need-store-requires
-store-requires c κs = search needs
+store-requires c κs = omega (arith, thirteen _ _ (c .before .before .fit-numbers .ensures), c .before .before .before .before .pre)
 
 same-length : tie.Need-same-length
 same-length c = search needs
 
 returns : tie.Need-returns
-unfolding fitNumbers matrixNumbers lensNumbers
-returns c = c .before .before .store .ensures
+returns c =
+    let o = now (c .before .before .before .before .before .before .before .args .out) in
+    c .before .before .store .ensures ∙ ap (λ v. written v o) (c .before .before .before .before .before .fit-numbers .ensures)
 
 pub store-fit-spec : {M : Type 1} → statement M
 store-fit-spec =
     tie.close
-    (tie.spec
-    array-read-t12
-    array-read-t15
-    array-read-t18
-    array-read-t21
-    array-read-t24
-    array-read-t27
-    array-read-t30
-    array-read-t33
-    array-read-t36
-    slice-aggregate-store
-    store-requires
-    same-length
-    returns)
+    (tie.spec fit-numbers-requires slice-aggregate-store store-requires same-length returns)

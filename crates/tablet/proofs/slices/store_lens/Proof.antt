@@ -1,5 +1,5 @@
 -- `tablet::slices::store_lens` meets its contract. Assumes nothing.
-use Rattle.tablet.specs.Layouts.{lensNumbers}
+use Rattle.fit.specs.Numbers.{lensNumbers}
 use borrow.Author.Needs.{needs}
 use Rattle.tablet.proofs.slices.store_lens.Statement.{statement}
 use Rattle.tablet.proofs.slices.store_lens.Tie as tie

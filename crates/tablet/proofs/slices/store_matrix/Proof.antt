@@ -1,5 +1,5 @@
 -- `tablet::slices::store_matrix` meets its contract. Assumes nothing.
-use Rattle.tablet.specs.Layouts.{matrixNumbers}
+use Rattle.fit.specs.Numbers.{matrixNumbers}
 use borrow.Author.Needs.{needs}
 use Rattle.tablet.proofs.slices.store_matrix.Statement.{statement}
 use Rattle.tablet.proofs.slices.store_matrix.Tie as tie

@@ -3,7 +3,7 @@ use mathlib.Core.Path.{ap, _∙_}
 use mathlib.Core.List.{[], _∷_, _++_}
 use lib.Ieee.{Float}
 use Rattle.tablet.specs.Slices.{written}
-use Rattle.tablet.specs.Layouts.{fitNumbers, matrixNumbers, lensNumbers}
+use Rattle.fit.specs.Numbers.{fitNumbers, matrixNumbers, lensNumbers}
 use Rattle.tablet.specs.Whole.{scoredFit}
 use borrow.Author.Needs.{needs}
 use Rattle.tablet.proofs.whole.store_scored.Statement.{statement}

@@ -1,0 +1,51 @@
+-- `each_number` stays within its slice. Assumes nothing.
+use Prim.Native.Nat.{_≤_, _-_}
+use lib.ListN.{length}
+use borrow.Author.Needs.{needs}
+use Rattle.test_book.proofs.print.each_number.Statement.{statement}
+use Rattle.test_book.proofs.print.each_number.Tie as tie
+
+abbrev Inv-loop : tie.InvT-loop
+Inv-loop l k₀ k-end k = k-end ≤ length l
+
+abbrev μ-loop : tie.MeasureT-loop
+μ-loop l k₀ k-end k = k-end - k
+
+loop-holds : tie.Need-loop-holds Inv-loop μ-loop
+loop-holds c = search needs
+
+mul-entry : tie.Need-mul-entry Inv-loop μ-loop
+mul-entry c = search needs
+
+shared-slice-read-entry : tie.Need-shared-slice-read-entry Inv-loop μ-loop
+shared-slice-read-entry c = search needs
+
+entry-requires : tie.Need-entry-requires Inv-loop μ-loop
+entry-requires c κs = search needs
+
+add-k : tie.Need-add-k Inv-loop μ-loop
+add-k c = search needs
+
+loop-less : tie.Need-loop-less Inv-loop μ-loop
+loop-less c = search needs
+
+loop-again : tie.Need-loop-again Inv-loop μ-loop
+loop-again c = search needs
+
+returns : tie.Need-returns Inv-loop μ-loop
+returns c = search needs
+
+pub each-number-spec : {M : Type 1} → statement M
+each-number-spec =
+    tie.close
+    (tie.spec
+    Inv-loop
+    μ-loop
+    loop-holds
+    mul-entry
+    shared-slice-read-entry
+    entry-requires
+    add-k
+    loop-less
+    loop-again
+    returns)

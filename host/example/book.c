@@ -1,0 +1,63 @@
+/* Fits are kept in a book and read again, bit by bit. Run by host/test. */
+#include <assert.h>
+#include <stdio.h>
+#include <string.h>
+
+#include "tablet.h"
+
+enum {
+    RECORDS = 2,
+    HEADS = RECORDS * TABLET_BOOK_HEAD_LEN,
+    NUMBERS = RECORDS * TABLET_FIT_LEN,
+    LEN = TABLET_BOOK_HEADER_LEN + RECORDS * TABLET_BOOK_RECORD_LEN,
+    GUARD = 0xa5
+};
+
+static const uint32_t heads[HEADS] = {7, 1, TABLET_SCORED, 7, 2, TABLET_TOO_FEW};
+static uint64_t numbers[NUMBERS];
+
+/* A fit, and then signalling NaNs, no two the same. */
+static void fill(void)
+{
+    const double fit[TABLET_FIT_LEN] = {1.5, 0.0, -3.0, 0.0, 1.5, -4.0, 0.0, 0.0, 1.0, -0.1, 96.0, 96.0, 1e-4};
+    memcpy(numbers, fit, sizeof fit);
+    for (uint64_t i = 0; i < TABLET_FIT_LEN; i++) numbers[TABLET_FIT_LEN + i] = 0x7ff0000000000001u + i;
+}
+
+static void written_and_read(void)
+{
+    uint8_t book[LEN + 1], again[LEN];
+    uint32_t h[HEADS];
+    uint64_t n[NUMBERS];
+    memset(book, GUARD, sizeof book);
+    assert(tablet_write_book(heads, HEADS, numbers, NUMBERS, RECORDS, book, sizeof book) == 0);
+    assert(book[0] == RECORDS && book[TABLET_BOOK_HEADER_LEN] == 7 && book[LEN] == GUARD);
+
+    /* What a reader knows is the length. */
+    size_t count = (LEN - TABLET_BOOK_HEADER_LEN) / TABLET_BOOK_RECORD_LEN;
+    assert(tablet_read_book(book, LEN, h, count * TABLET_BOOK_HEAD_LEN, n, count * TABLET_FIT_LEN) == 0);
+    assert(memcmp(h, heads, sizeof heads) == 0 && memcmp(n, numbers, sizeof numbers) == 0);
+    assert(tablet_write_book(h, HEADS, n, NUMBERS, count, again, LEN) == 0 && memcmp(again, book, LEN) == 0);
+
+    /* A byte too many is 14, and comes before 3. */
+    assert(tablet_read_book(book, LEN + 1, h, HEADS - 1, n, NUMBERS) == 14);
+    assert(tablet_read_book(book, LEN, h, HEADS - 1, n, NUMBERS) == 3);
+}
+
+static void refused(void)
+{
+    const uint32_t equal[HEADS] = {7, 1, TABLET_SCORED, 7, 1, TABLET_SCORED};
+    uint8_t book[LEN] = {GUARD};
+    assert(tablet_write_book(equal, HEADS, numbers, NUMBERS, RECORDS, book, LEN - 1) == 3);
+    assert(tablet_write_book(equal, HEADS, numbers, NUMBERS, RECORDS, book, LEN) == 15);
+    assert(tablet_write_book(heads, HEADS, numbers, NUMBERS, TABLET_BOOK_MOST_RECORDS + 1, book, LEN) == 3);
+    assert(book[0] == GUARD && book[LEN - 1] == 0);
+}
+
+int main(void)
+{
+    fill();
+    written_and_read();
+    refused();
+    return puts("books agree") < 0;
+}
