@@ -18,7 +18,7 @@ use Rattle.book.specs.Layout.{headEntry, numberEntry, keyAt, gradeAt, re
 unfoldable pub keyBefore : ℕ → ℕ → ℕ → ℕ → Bool
 keyBefore p c q d = ltb p q || (eqb p q && ltb c d)
 
--- the key of record j + 1 is above that of record j
+-- [18.5] the key of record j + 1 is above that of record j
 unfoldable pub risesAt : (ℕ → Key) → ℕ → Bool
 risesAt key j = keyBefore (key j .panel) (key j .camera) (key (j + 1) .panel) (key (j + 1) .camera)
 
@@ -30,7 +30,7 @@ keysRise key n = every (n - 1) (risesAt key)
 abbrev pub gradeHeld : ℕ → Bool
 gradeHeld g = leb g 2
 
--- [18.3] "header, length wrong": sixteen bytes at least; 16 and 120; the total, as a whole number, and all the bytes
+-- [18.3, 18.7] header or length is wrong: sixteen bytes at least; 16 and 120; the total, as a whole number, and all the bytes
 -- there are
 unfoldable pub headerWrong : List ℕ → Bool
 headerWrong b =

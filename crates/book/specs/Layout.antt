@@ -64,16 +64,17 @@ gradeIn b j = u32At b (bookLength j + 8)
 unfoldable pub zeroIn : List ℕ → ℕ → ℕ
 zeroIn b j = u32At b (bookLength j + 12)
 
--- ---- the two lists: panel, camera and grade of each record, and its thirteen patterns
+-- ---- the two lists that a reader fills and a writer takes: panel, camera and grade of each record, and its thirteen
+-- patterns
 
--- entry i of the heads, and of the numbers, of a book that is read
+-- [18.4] entry i of the heads, and of the numbers, of a book that is read
 unfoldable pub headEntry : List ℕ → ℕ → ℕ
 headEntry b i = u32At b (bookLength (i / 3) + 4 * (i % 3))
 
 unfoldable pub numberEntry : List ℕ → ℕ → ℕ
 numberEntry b i = u64At b (bookLength (i / 13) + 16 + 8 * (i % 13))
 
--- key and grade of record j, and the whole record
+-- [18.4] key and grade of record j of the lists, and the whole record
 unfoldable pub keyAt : List ℕ → ℕ → Key
 keyAt heads j = record { panel = getD heads (3 * j) 0; camera = getD heads (3 * j + 1) 0 }
 

@@ -1,4 +1,4 @@
--- Checksums of numbers (host/comparison/src/bin/captures.rs, host/vectors/page.py). Assumes nothing.
+-- Checksums of numbers (host/comparison/src/bin/captures.rs, host/vectors/page.py, book.py). Assumes nothing.
 use Prim.Native.Nat.{ℕ, _+_, _*_, _%_}
 use mathlib.Core.List.{List}
 use lib.ListN.{length, getD}
