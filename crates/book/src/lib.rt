@@ -21,16 +21,15 @@ ghost use mathlib.Core.Path.{_≡_};
 ghost use Rattle.book.specs.Layout.{recordOf, fitIn};
 ghost use Rattle.book.specs.Contracts.{Reading, Writing};
 
-// Bytes of the header, and of a record.
+// Bytes of the header.
 pub const HEADER_LENGTH: usize = 16;
-
+// Bytes of a record.
 pub const RECORD_LENGTH: usize = 120;
 // The total of one record more does not fit the header's u32.
 pub const MOST_RECORDS: usize = 35_791_393;
-// Numbers that a record has in the list of heads (panel, camera, grade), and in that of numbers
-// (nine matrix entries by rows, k, cx, cy, norm).
+// A record's numbers in the list of heads: panel, camera, grade.
 pub const HEAD_NUMBERS: usize = 3;
-
+// A record's numbers in the list of numbers: nine matrix entries by rows, k, cx, cy, norm.
 pub const FIT_NUMBERS: usize = 13;
 
 // A record of a book. The grade is 0 where the fit was scored, 1 where a tap was outside the
@@ -42,7 +41,7 @@ pub struct FitRecord {
     pub numbers: [u64; 13],
 }
 
-// Reads a book into the two lists, and answers how many records it has. Refusals 14, 15, and then 3.
+// Reads a book into the two lists, and answers how many records it has. Refusals 14, 15, then 3.
 pub fn read_book(book: &[u8], heads: &mut [u32], numbers: &mut [u64]) -> Number
     ensures { λ r. ⌜ Reading (now (book .entry)) (now (heads .entry)) (now (numbers .entry)) (now (heads .exit))
         (now (numbers .exit)) r ⌝ }
