@@ -9,7 +9,7 @@ use lib.ListN.{length, getD, take, drop, set, length-drop}
 use lib.Seq.{drop-cons, getD-drop, length-take-le}
 use Rattle.base.proofs.Over.{over, over-set, over-whole}
 use Rattle.base.proofs.Spans.{span}
-use Rattle.base.specs.Bytes.{leBytes, leNumber, littleEndian}
+use Rattle.base.specs.Bytes.{AllBelow, leBytes, leNumber, littleEndian}
 
 -- ---- written
 
@@ -28,7 +28,7 @@ past-first zero v = refl
 past-first (suc n) v = ap (λ k. k / 256) (past-first n v)
 
 -- one byte more
-pub le-bytes-more : (n v : ℕ) → leBytes (suc n) v ≡ leBytes n v ++ (past n v % 256 ∷ [])
+le-bytes-more : (n v : ℕ) → leBytes (suc n) v ≡ leBytes n v ++ (past n v % 256 ∷ [])
 unfolding leBytes
 le-bytes-more zero v = refl
 le-bytes-more (suc n) v =
@@ -53,20 +53,16 @@ le-bytes-end v k b l e h = over-whole (leBytes k v) l b e (length-le-bytes k v �
 
 -- ---- read
 
--- the bytes of a list are below 256
-abbrev pub Bytes : List ℕ → Type 0
-Bytes l = (i : ℕ) → getD l i 0 < 256
-
-bytes-tail : (c : ℕ) (l : List ℕ) → Bytes (c ∷ l) → Bytes l
+bytes-tail : (c : ℕ) (l : List ℕ) → AllBelow 256 (c ∷ l) → AllBelow 256 l
 bytes-tail c l h i = h (suc i)
 
-bytes-take : (n : ℕ) (l : List ℕ) → Bytes l → Bytes (take n l)
+bytes-take : (n : ℕ) (l : List ℕ) → AllBelow 256 l → AllBelow 256 (take n l)
 bytes-take zero l h i = omega arith
 bytes-take (suc n) [] h i = omega arith
 bytes-take (suc n) (c ∷ l) h zero = h zero
 bytes-take (suc n) (c ∷ l) h (suc i) = bytes-take n l (bytes-tail c l h) i
 
-le-number-below : (l : List ℕ) → Bytes l → leNumber l < 256 ^ length l
+le-number-below : (l : List ℕ) → AllBelow 256 l → leNumber l < 256 ^ length l
 unfolding leNumber
 le-number-below [] h = omega arith
 le-number-below (c ∷ l) h =
@@ -90,7 +86,7 @@ little-endian-end b n p k v e h =
     (h .0 ∙ ap (λ i. littleEndian i b (p + k)) m ∙ ap (littleEndian n b) q, subst (λ i. v < 256 ^ i) m (h .1))
 
 -- one byte before
-pub little-endian-more : (n : ℕ) (b : List ℕ) (p : ℕ) → p < length b → littleEndian (suc n) b p ≡ getD b p 0 + 256 * littleEndian n b (suc p)
+little-endian-more : (n : ℕ) (b : List ℕ) (p : ℕ) → p < length b → littleEndian (suc n) b p ≡ getD b p 0 + 256 * littleEndian n b (suc p)
 unfolding littleEndian leNumber
 little-endian-more n b p h = ap (λ l. leNumber (take (suc n) l)) (drop-cons b p 0 h)
 
@@ -121,7 +117,7 @@ le-number-bytes (suc n) v h =
     let e : leNumber (leBytes n (v / 256)) ≡ v / 256 = le-number-bytes n (v / 256) (omega (arith, pow-suc 256 n)) in
     omega arith
 
-le-bytes-number : (l : List ℕ) → Bytes l → leBytes (length l) (leNumber l) ≡ l
+le-bytes-number : (l : List ℕ) → AllBelow 256 l → leBytes (length l) (leNumber l) ≡ l
 unfolding leNumber leBytes
 le-bytes-number [] h = refl
 le-bytes-number (c ∷ l) h =
@@ -136,11 +132,11 @@ pub reads-written : (n v p : ℕ) (b : List ℕ) → v < 256 ^ n → span b p n 
 unfolding littleEndian
 reads-written n v p b h e = ap leNumber e ∙ le-number-bytes n v h
 
-module _ (n p : ℕ) (b : List ℕ) (h : Bytes b) (r : p + n ≤ length b) where
+module _ (n p : ℕ) (b : List ℕ) (h : AllBelow 256 b) (r : p + n ≤ length b) where
   part-long : length (span b p n) ≡ n
   part-long = length-take-le n (drop p b) (omega (arith, length-drop p b))
 
-  part-bytes : Bytes (span b p n)
+  part-bytes : AllBelow 256 (span b p n)
   part-bytes = bytes-take n (drop p b) (λ i. subst (λ c. c < 256) (sym (getD-drop p b i 0)) (h (p + i)))
 
   pub writes-read : leBytes n (littleEndian n b p) ≡ span b p n

@@ -47,9 +47,3 @@ module _ (p : ℕ → Bool) where
   unfolding every turns
   one-every zero f = refl
   one-every (suc n) f = and-both (every n p) (p n) (one-every n (λ i k. f i (omega arith))) (f n (omega arith))
-
--- two tests that agree
-pub every-cong : (p q : ℕ → Bool) (n : ℕ) → ((i : ℕ) → i < n → p i ≡ q i) → every n p ≡ every n q
-unfolding every turns
-every-cong p q zero h = refl
-every-cong p q (suc n) h = ap (λ b. b && p n) (every-cong p q n (λ i k. h i (omega arith))) ∙ ap (λ b. every n q && b) (h n (omega arith))

@@ -13,7 +13,7 @@ use Rattle.base.specs.Loops.{joined}
 use Rattle.base.proofs.Arith.{last-or}
 use Rattle.base.proofs.Over.{over, over-part}
 
-pub joined-more : {A : Type 0} (f : ℕ → List A) (n : ℕ) → joined f (n + 1) ≡ joined f n ++ f n
+joined-more : {A : Type 0} (f : ℕ → List A) (n : ℕ) → joined f (n + 1) ≡ joined f n ++ f n
 joined-more f n = ap (joined f) (add-one n) ∙ unfold joined in refl
 
 module _ {A : Type 0} (f : ℕ → List A) (m : ℕ) (each : (i : ℕ) → length (f i) ≡ m) where

@@ -18,9 +18,9 @@ use Rattle.frame.specs.declared.Number.the-variants as N
 use Rattle.frame.proofs.Lowest.{lowest-of}
 use Rattle.book.specs.Layout.{bookLength, u32At, countIn, Key, keyIn, gradeIn, zeroIn}
 use Rattle.book.specs.Contracts.{keyBefore, risesAt, keysRise, headerWrong, recordHeld, recordsHeld, bookTests, readTests, writeTests}
-use Rattle.book.specs.Meaning.{Before, Rise, RiseIs, WellFormed, WellFormedIs, ReadRefusal, ReaderGiven, WriterGiven}
+use Rattle.book.specs.Meaning.{Before, Rise, RiseIs, Headed, WellFormed, WellFormedIs, ReadRefusal, ReaderGiven, WriterGiven}
 use Rattle.book.specs.Meaning.ReadRefusal.{malformed, unsorted, short, none}
-use Rattle.book.proofs.Refusing.{header-right}
+use Rattle.book.proofs.Refusing.{header-right, bad, falls}
 
 -- ---- keys
 
@@ -59,7 +59,7 @@ rise-is key n = (
 
 -- ---- header, length, grades and zero fields
 
-right-header : (b : List ℕ) → WellFormed b → headerWrong b ≡ false
+right-header : (b : List ℕ) → Headed b → headerWrong b ≡ false
 unfolding headerWrong
 right-header b w =
     or-neither (ltb (length b) 16) _ (le-ltb (length b) 16 (w .headed))
@@ -83,36 +83,25 @@ well-formed-is b = (formed, wrong)
   where
     formed : (headerWrong b || not (every (countIn b) (recordHeld b))) ≡ false → WellFormed b
     formed e =
-        let h = header-right b (or-left (headerWrong b) _ e) in
         let r : every (countIn b) (recordHeld b) ≡ true = not-false _ (or-right (headerWrong b) _ e) in
         record {
-          headed = h .long;
-          offset = h .offset;
-          each = h .each;
-          total = h .total;
-          all = h .all;
+          header = header-right b (or-left (headerWrong b) _ e);
           grades = λ j k. record-true b j (every-one (recordHeld b) (countIn b) r j k) .0;
           zeros = λ j k. record-true b j (every-one (recordHeld b) (countIn b) r j k) .1;
         }
 
     wrong : WellFormed b → (headerWrong b || not (every (countIn b) (recordHeld b))) ≡ false
     wrong w =
-        or-neither (headerWrong b) _ (right-header b w)
+        or-neither (headerWrong b) _ (right-header b (w .header))
         (ap not (one-every (recordHeld b) (countIn b) (λ j k. true-record b j (w .grades j k) (w .zeros j k))))
 
 -- ---- the number given
 
 module _ (b heads numbers : List ℕ) where
-  abbrev bad : Bool
-  bad = headerWrong b || not (recordsHeld b (countIn b))
-
-  abbrev falls : Bool
-  falls = not (keysRise (keyIn b) (countIn b))
-
   abbrev tight : Bool
   tight = ltb (length heads) (3 * countIn b) || ltb (length numbers) (13 * countIn b)
 
-  given : (s t u : Bool) → bad ≡ s → falls ≡ t → tight ≡ u → ReadRefusal b heads numbers (cond s 14 (cond t 15 (cond u 3 0)))
+  given : (s t u : Bool) → bad b ≡ s → falls b ≡ t → tight ≡ u → ReadRefusal b heads numbers (cond s 14 (cond t 15 (cond u 3 0)))
   given true t u e d f = malformed refl (λ w. true≢false (sym e ∙ well-formed-is b .1 w))
   given false true u e d f = unsorted refl (well-formed-is b .0 e) (λ r. true≢false (sym d ∙ ap not (rise-is (keyIn b) (countIn b) .1 r)))
   given false false true e d f = short refl (well-formed-is b .0 e) (rise-is (keyIn b) (countIn b) .0 (not-false _ d)) (⊎-elim

@@ -10,7 +10,7 @@ use lib.ListN.{length, getD, take, drop, length-append}
 use lib.Seq.{length-take-le, take-all, take-at, getD-take, getD-drop}
 use Rattle.frame.specs.Refusals.{lowestOf}
 use Rattle.frame.specs.declared.Number.the-variants as N
-use Rattle.base.specs.Bytes.{leBytes}
+use Rattle.base.specs.Bytes.{AllBelow, leBytes}
 use Rattle.base.specs.Loops.{filled, joined}
 use Rattle.base.proofs.Bytes.{length-le-bytes, reads-written}
 use Rattle.base.proofs.Every.{every-one}
@@ -21,10 +21,10 @@ use Rattle.base.proofs.Tests.{fails, or-left, or-right}
 use borrow.Author.Tests.{leb-true, ltb-false, not-false}
 use Rattle.frame.proofs.Given.{number-accepted}
 use Rattle.frame.proofs.Lowest.{none-tested}
-use Rattle.book.proofs.Written.{header-length, pattern-length, record-length, book-length}
+use Rattle.book.proofs.Written.{four-long, header-length, pattern-length, record-length, book-length}
 use Rattle.book.specs.Layout.{bookLength, header, patternBytes, recordBytes, bookBytes, u32At, u64At, countIn, keyIn, keyAt, gradeIn, gradeAt, zeroIn, headEntry, numberEntry, recordAt}
 use Rattle.book.specs.Contracts.{readTests, writeTests, gradesHeld, keysRise, Reading}
-use Rattle.book.specs.Meaning.{AllBelow, Before, Rise, WellFormed, ReadRefusal, ReadsBack}
+use Rattle.book.specs.Meaning.{Before, Rise, WellFormed, ReadRefusal, ReadsBack}
 use Rattle.book.specs.Meaning.ReadRefusal.{malformed, unsorted, short, none}
 use Rattle.book.proofs.Meaning.{rise-is, reader-given, accepted-is}
 use Rattle.book.specs.declared.FitRecord.{FitRecord}
@@ -44,7 +44,7 @@ module _ (a c g z : ℕ) (rest : List ℕ) where
   three-long = length-append two (leBytes 4 g) ∙ omega (arith, two-long, length-le-bytes 4 g)
 
   words-long : length words ≡ 16
-  words-long = length-append (two ++ leBytes 4 g) (leBytes 4 z) ∙ omega (arith, three-long, length-le-bytes 4 z)
+  words-long = four-long a c g z
 
   alone : (v : ℕ) → span (leBytes 4 v) 0 4 ≡ leBytes 4 v
   alone v = take-all 4 (leBytes 4 v) (omega (arith, length-le-bytes 4 v))
@@ -247,11 +247,13 @@ module _ (heads numbers : List ℕ) (n : ℕ) (area : List ℕ) (u32 : AllBelow 
   formed =
       let f = recordAt heads numbers in
       record {
-        headed = omega (arith, long);
-        offset = offset-in f n (K .few);
-        each = each-in f n (K .few);
-        total = total-in f n (K .few) ∙ ap bookLength (sym count-is);
-        all = long ∙ sym (total-in f n (K .few));
+        header = record {
+          headed = omega (arith, long);
+          offset = offset-in f n (K .few);
+          each = each-in f n (K .few);
+          total = total-in f n (K .few) ∙ ap bookLength (sym count-is);
+          all = long ∙ sym (total-in f n (K .few));
+        };
         grades = λ j h. grade-in j (omega (arith, count-is));
         zeros = λ j h. zero-in j (omega (arith, count-is));
       }

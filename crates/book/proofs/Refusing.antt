@@ -11,6 +11,7 @@ use Rattle.base.proofs.Tests.{or-first, or-second, or-neither, or-left, or-righ
 use Rattle.frame.specs.Refusals.{check, lowestOf}
 use Rattle.frame.proofs.Lowest.{Rising, lowest-first, lowest-next, lowest-none, lowest-before, lowest-past}
 use Rattle.book.specs.Layout.{bookLength, u32At, countIn, keyIn, keyAt}
+use Rattle.book.specs.Meaning.{Headed}
 use Rattle.book.specs.Contracts.{keysRise, headerWrong, recordsHeld, gradesHeld, bookTests, readTests, writeTests}
 
 -- ---- the header
@@ -22,17 +23,10 @@ unfolding headerWrong countIn
 header-is b n o l t h en eo el et = rw (le-ltb (length b) 16 h) cc
 
 -- what a right header says
-pub record HeaderRight (b : List ℕ) : Type 0 where
-  pub long : 16 ≤ length b
-  pub offset : u32At b 4 ≡ 16
-  pub each : u32At b 8 ≡ 120
-  pub total : u32At b 12 ≡ bookLength (countIn b)
-  pub all : length b ≡ u32At b 12
-
 same : (x y : ℕ) → not (eqb x y) ≡ false → x ≡ y
 same x y e = eqb-true x y (not-false (eqb x y) e)
 
-pub header-right : (b : List ℕ) → headerWrong b ≡ false → HeaderRight b
+pub header-right : (b : List ℕ) → headerWrong b ≡ false → Headed b
 unfolding headerWrong
 header-right b e =
     let p = not (eqb (u32At b 4) 16) in
@@ -43,7 +37,7 @@ header-right b e =
     let three : (p || q || r) ≡ false = or-left (p || q || r) s words in
     let two : (p || q) ≡ false = or-left (p || q) r three in
     record {
-      long = ltb-false (length b) 16 (or-left (ltb (length b) 16) (p || q || r || s) e);
+      headed = ltb-false (length b) 16 (or-left (ltb (length b) 16) (p || q || r || s) e);
       offset = same (u32At b 4) 16 (or-left p q two);
       each = same (u32At b 8) 120 (or-right p q two);
       total = same (u32At b 12) (bookLength (countIn b)) (or-right (p || q) r three);
@@ -53,10 +47,11 @@ header-right b e =
 -- ---- a book
 
 module _ (b : List ℕ) where
-  abbrev bad : Bool
+  -- what 14 is given for, and 15
+  abbrev pub bad : Bool
   bad = headerWrong b || not (recordsHeld b (countIn b))
 
-  abbrev falls : Bool
+  abbrev pub falls : Bool
   falls = not (keysRise (keyIn b) (countIn b))
 
   pub header-gives : headerWrong b ≡ true → 14 ≡ lowestOf (bookTests b)

@@ -9,9 +9,9 @@ use lib.ListN.{length, getD, take, drop}
 use lib.Seq.{take-all, getD-take, getD-drop}
 use Rattle.frame.specs.Refusals.{lowestOf}
 use Rattle.frame.specs.declared.Number.the-variants as N
-use Rattle.base.specs.Bytes.{leBytes}
+use Rattle.base.specs.Bytes.{AllBelow, leBytes}
 use Rattle.base.specs.Loops.{filled, joined}
-use Rattle.base.proofs.Bytes.{Bytes, writes-read, little-endian-below}
+use Rattle.base.proofs.Bytes.{writes-read, little-endian-below}
 use Rattle.base.proofs.Every.{one-every}
 use Rattle.base.proofs.Spans.{span, span-join}
 use borrow.Author.Tests.{le-leb}
@@ -24,7 +24,7 @@ use Rattle.book.specs.Meaning.{Before, Rise, WellFormed, ReadRefusal, Wr
 use Rattle.book.specs.Meaning.ReadRefusal.{malformed, unsorted, short, none}
 use Rattle.book.proofs.Meaning.{rise-is, reader-given, accepted-is}
 
-module _ (b : List ℕ) (bytes : Bytes b) where
+module _ (b : List ℕ) (bytes : AllBelow 256 b) where
   u32-back : (p : ℕ) → p + 4 ≤ length b → leBytes 4 (u32At b p) ≡ span b p 4
   unfolding u32At
   u32-back p h = writes-read 4 p b bytes h
@@ -74,13 +74,13 @@ accepted-read b heads numbers z = go (reader-given b heads numbers)
     go (short e w r s) = absurd (omega (arith, e, z))
     go (none e w r h k) = record { formed = w; rises = r; heads-held = h; numbers-held = k }
 
-module _ (b heads numbers heads′ numbers′ : List ℕ) (bytes : Bytes b) (A : Accepted b heads numbers)
+module _ (b heads numbers heads′ numbers′ : List ℕ) (bytes : AllBelow 256 b) (A : Accepted b heads numbers)
     (heads-are : heads′ ≡ filled (headEntry b) (3 * countIn b) heads) (numbers-are : numbers′ ≡ filled (numberEntry b) (13 * countIn b) numbers) where
   abbrev n : ℕ
   n = countIn b
 
   whole : length b ≡ bookLength n
-  whole = A .formed .all ∙ A .formed .total
+  whole = A .formed .header .all ∙ A .formed .header .total
 
   -- entry by entry
   head-is : (j f : ℕ) → j < n → f < 3 → getD heads′ (3 * j + f) 0 ≡ u32At b (bookLength j + 4 * f)
@@ -146,7 +146,7 @@ module _ (b heads numbers heads′ numbers′ : List ℕ) (bytes : Bytes b) (A :
   header-back : header n ≡ span b 0 16
   unfolding header countIn
   header-back =
-      let w = A .formed in
+      let w = A .formed .header in
       ap (λ v. leBytes 4 (u32At b 0) ++ leBytes 4 v ++ leBytes 4 120 ++ leBytes 4 (bookLength (u32At b 0))) (sym (w .offset))
       ∙ ap (λ v. leBytes 4 (u32At b 0) ++ leBytes 4 (u32At b 4) ++ leBytes 4 v ++ leBytes 4 (bookLength (u32At b 0))) (sym (w .each))
       ∙ ap (λ v. leBytes 4 (u32At b 0) ++ leBytes 4 (u32At b 4) ++ leBytes 4 (u32At b 8) ++ leBytes 4 v) (sym (w .total))
@@ -175,16 +175,16 @@ module _ (b heads numbers heads′ numbers′ : List ℕ) (bytes : Bytes b) (A :
 
   pub writes-accepted : (area : List ℕ) → length b ≤ length area → lowestOf (writeTests heads′ numbers′ n area) ≡ 0
   writes-accepted area r =
-      let few : u32At b 12 < 256 ^ 4 = u32-below b bytes 12 (omega (arith, A .formed .headed)) in
+      let few : u32At b 12 < 256 ^ 4 = u32-below b bytes 12 (omega (arith, A .formed .header .headed)) in
       let hl : length heads′ ≡ length heads = ap length heads-are ∙ length-filled (headEntry b) heads (3 * n) in
       let xl : length numbers′ ≡ length numbers = ap length numbers-are ∙ length-filled (numberEntry b) numbers (13 * n) in
       let l : Lent heads′ numbers′ n area = record {
         heads-held = omega (arith, A .heads-held);
         numbers-held = omega (arith, A .numbers-held);
-        headed = omega (arith, A .formed .headed);
+        headed = omega (arith, A .formed .header .headed);
         book-held = omega (arith, whole);
       } in
-      sym (sorted-gives heads′ numbers′ n area l (omega (arith, A .formed .total)) graded risen)
+      sym (sorted-gives heads′ numbers′ n area l (omega (arith, A .formed .header .total)) graded risen)
 
 pub writes-back : WritesBack
 writes-back b heads numbers heads′ numbers′ n area area′ a bytes R W r =
@@ -192,7 +192,7 @@ writes-back b heads numbers heads′ numbers′ n area area′ a bytes R W r =
     let A = accepted-read b heads numbers (x .0) in
     let h = R .heads-are (x .0) in
     let k = R .numbers-are (x .0) in
-    let long : length b ≡ bookLength n = A .formed .all ∙ A .formed .total ∙ ap bookLength (sym (x .1)) in
+    let long : length b ≡ bookLength n = A .formed .header .all ∙ A .formed .header .total ∙ ap bookLength (sym (x .1)) in
     let z : lowestOf (writeTests heads′ numbers′ n area) ≡ 0 =
     ap (λ m. lowestOf (writeTests heads′ numbers′ m area)) (x .1) ∙ writes-accepted b heads numbers heads′ numbers′ bytes A h k area r in (
       W .given ∙ sym (number-accepted (writeTests heads′ numbers′ n area) (bookLength n) z) ∙ ap N.Is (sym long),

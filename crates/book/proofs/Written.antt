@@ -25,8 +25,8 @@ number-next t l b x n e v p h r f =
     part-next t l b (leBytes (e - n) v) x n e p h (f ∙ ap (λ i. leBytes i v) (mid-len n e b (omega arith))) (length-le-bytes (e - n) v)
 
 -- ---- lengths
-four : (a b c d : ℕ) → length (leBytes 4 a ++ leBytes 4 b ++ leBytes 4 c ++ leBytes 4 d) ≡ 16
-four a b c d =
+pub four-long : (a b c d : ℕ) → length (leBytes 4 a ++ leBytes 4 b ++ leBytes 4 c ++ leBytes 4 d) ≡ 16
+four-long a b c d =
     length-append (leBytes 4 a ++ leBytes 4 b ++ leBytes 4 c) (leBytes 4 d)
     ∙ omega (
       arith,
@@ -40,7 +40,7 @@ four a b c d =
 
 pub header-length : (n : ℕ) → length (header n) ≡ 16
 unfolding header
-header-length n = four n 16 120 (bookLength n)
+header-length n = four-long n 16 120 (bookLength n)
 
 pub pattern-length : (l : List ℕ) (i : ℕ) → length (patternBytes l i) ≡ 8
 unfolding patternBytes
@@ -50,7 +50,7 @@ pub record-length : (r : FitRecord) → length (recordBytes r) ≡ 120
 unfolding recordBytes
 record-length r =
     length-append (leBytes 4 (r .panel) ++ leBytes 4 (r .camera) ++ leBytes 4 (r .grade) ++ leBytes 4 0) (joined (patternBytes (r .numbers)) 13)
-    ∙ omega (arith, four (r .panel) (r .camera) (r .grade) 0, length-joined (patternBytes (r .numbers)) 8 (pattern-length (r .numbers)) 13)
+    ∙ omega (arith, four-long (r .panel) (r .camera) (r .grade) 0, length-joined (patternBytes (r .numbers)) 8 (pattern-length (r .numbers)) 13)
 
 pub book-length : (f : ℕ → FitRecord) (n : ℕ) → length (bookBytes f n) ≡ bookLength n
 unfolding bookBytes

@@ -30,8 +30,8 @@ keysRise key n = every (n - 1) (risesAt key)
 abbrev pub gradeHeld : ℕ → Bool
 gradeHeld g = leb g 2
 
--- [18.3, 18.7] header or length is wrong: sixteen bytes at least; 16 and 120; the total, as a whole number, and all the bytes
--- there are
+-- [18.3, 18.7] header or length is wrong: sixteen bytes at least; 16 and 120; the total, as a whole number, and all the
+-- bytes there are
 unfoldable pub headerWrong : List ℕ → Bool
 headerWrong b =
     ltb (length b) 16

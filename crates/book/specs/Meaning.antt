@@ -8,6 +8,7 @@ use mathlib.Core.List.{List, _++_}
 use lib.Dec.{T}
 use lib.ListN.{length, getD, take, drop}
 use lib.Ieee.{nan, binary64, fits}
+use Rattle.base.specs.Bytes.{AllBelow}
 use Rattle.frame.specs.Refusals.{Lowest, Tested, lowestOf}
 use Rattle.frame.specs.declared.Number.{Number}
 use Rattle.frame.specs.declared.Number.the-variants as N
@@ -32,8 +33,8 @@ Rise key n = (i j : ℕ) → i < j → j < n → Before (key i) (key j)
 abbrev pub RiseIs : Type 0
 RiseIs = (key : ℕ → Key) (n : ℕ) → (keysRise key n ≡ true) ↔ Rise key n
 
--- [18.3, 18.4] header, length, grades and zero fields are right
-pub record WellFormed (b : List ℕ) : Type 0 where
+-- [18.3] header and length are right
+pub record Headed (b : List ℕ) : Type 0 where
   -- "four u32"
   pub headed : 16 ≤ length b
   -- "offset of the first record (16), record length (120)"
@@ -42,6 +43,10 @@ pub record WellFormed (b : List ℕ) : Type 0 where
   -- "total length (16 + 120 times the count, and all the bytes there are)"
   pub total : u32At b 12 ≡ bookLength (countIn b)
   pub all : length b ≡ u32At b 12
+
+-- [18.3, 18.4] .. and grades and zero fields
+pub record WellFormed (b : List ℕ) : Type 0 where
+  pub header : Headed b
   -- "grade u32 (0 scored, 1 outside, 2 too few), a zero u32"
   pub grades : (j : ℕ) → j < countIn b → gradeIn b j ≤ 2
   pub zeros : (j : ℕ) → j < countIn b → zeroIn b j ≡ 0
@@ -68,10 +73,6 @@ WriterGiven =
     → Lowest (λ n. Tested n (writeTests heads numbers count book)) (lowestOf (writeTests heads numbers count book))
 
 -- ---- round trips
-
--- the entries of a slice of bytes, of u32 and of u64
-abbrev pub AllBelow : ℕ → List ℕ → Type 0
-AllBelow n l = (i : ℕ) → getD l i 0 < n
 
 -- [18.6] "writing a book that was read gives its bytes back, NaN bits included": in an area that can hold it the writer
 -- accepts, and the book stands there
