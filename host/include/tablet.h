@@ -98,7 +98,8 @@ enum {
     TABLET_TRIALS = 7,
     TABLET_HOMOGRAPHIES = 8,
     TABLET_GRADE = 9, /* of the kept trial */
-    TABLET_OUTSIDE_CELL = 10 /* row * cols + column where the grade is TABLET_OUTSIDE, else 0 */
+    TABLET_OUTSIDE_CELL = 10 /* where the grade is TABLET_OUTSIDE the first sampled cell, by row, then column, that has a tap
+                              * outside the picture: row * cols + column, over all cells; else 0 */
 };
 
 /* Grades. */
@@ -176,7 +177,7 @@ uint32_t tablet_fit_for(size_t w, size_t h, size_t width, size_t height, size_t 
                         const double *points, size_t points_len, double k, double *fit, size_t fit_len);
 
 /* How well a fit explains the cells. 1, 2, 3. fit: TABLET_FIT_LEN; means: a work area; grade: TABLET_GRADE_LEN, the grade and the
- * outside cell; score: one, -infinity where unscored. The fit is not tested. */
+ * first cell outside, as TABLET_OUTSIDE_CELL; score: one, -infinity where unscored. The fit is not tested. */
 uint32_t tablet_grid_score(const uint8_t *capture, size_t capture_len, size_t w, size_t h,
                            size_t width, size_t height, size_t cell, size_t margin,
                            const double *fit, size_t fit_len, double *means, size_t means_len,

@@ -1,3 +1,4 @@
 -- Laws of the definitions.
 pub mod Cases
+pub mod First
 mod Walks

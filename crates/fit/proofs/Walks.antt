@@ -33,12 +33,12 @@ walkOf found cell = cond found (Ended cell) Going
 
 module _ (img : Image) (f : FrameSpec) (fit : GeometryFit) where
   -- what ended stays
-  cell-stays : (y cell x : ℕ) → cellStep img f fit y x (Ended cell) ≡ Ended cell
+  pub cell-stays : (y cell x : ℕ) → cellStep img f fit y x (Ended cell) ≡ Ended cell
   unfolding cellStep
   cell-stays y cell x =
       turns-keep (tapStep img f fit y x) (Ended cell) (λ w. w ≡ Ended cell) refl (λ i w e. ap (tapStep img f fit y x i) e) 9
 
-  row-stays : (cell y : ℕ) → rowStep img f fit y (Ended cell) ≡ Ended cell
+  pub row-stays : (cell y : ℕ) → rowStep img f fit y (Ended cell) ≡ Ended cell
   unfolding rowStep
   row-stays cell y =
       turns-keep (cellStep img f fit y) (Ended cell) (λ w. w ≡ Ended cell) refl (λ x w e. ap (cellStep img f fit y x) e ∙ cell-stays y cell x) (across f)
@@ -47,7 +47,7 @@ module _ (img : Image) (f : FrameSpec) (fit : GeometryFit) where
   pub tap-in : (y x i : ℕ) → tapOutside img f fit (3 * x) (3 * y) i ≡ false → Going ≡ tapStep img f fit y x i Going
   tap-in y x i e = pick-no _ _ _ e
 
-  tap-out : (y x i : ℕ) → tapOutside img f fit (3 * x) (3 * y) i ≡ true → tapStep img f fit y x i Going ≡ Ended (3 * y * cols f + 3 * x)
+  pub tap-out : (y x i : ℕ) → tapOutside img f fit (3 * x) (3 * y) i ≡ true → tapStep img f fit y x i Going ≡ Ended (3 * y * cols f + 3 * x)
   tap-out y x i e = sym (pick-yes _ _ _ e)
 
   -- the first tap outside ends the three walks

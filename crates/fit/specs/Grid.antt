@@ -94,7 +94,7 @@ abbrev pub onGoing : Walk → Walk → Walk
 onGoing next Going = next
 onGoing next (Ended cell) = Ended cell
 
--- [11.3] the number row·cols + column
+-- [11.3, 19.3] the number row·cols + column
 abbrev pub tapStep : Image → FrameSpec → GeometryFit → ℕ → ℕ → ℕ → Walk → Walk
 tapStep img f fit y x i s =
     onGoing (cond (tapOutside img f fit (3 * x) (3 * y) i) (Ended (3 * y * cols f + 3 * x)) Going) s
@@ -108,8 +108,8 @@ rowStep img f fit y s = turns (across f) (cellStep img f fit y) s
 unfoldable pub walked : Image → FrameSpec → GeometryFit → Walk
 walked img f fit = turns (down f) (rowStep img f fit) Going
 
--- [11.3] the grade is a score with its float, too few cells (under 16), or outside with a cell; [11.5] outside goes
--- before too few
+-- [11.3] the grade is a score with its float, too few cells (under 16), or outside with a cell (which one, by meaning:
+-- specs/First); [11.5] outside goes before too few
 abbrev pub gradeFrom : Walk → Grade → Grade
 gradeFrom (Ended cell) g = Outside cell
 gradeFrom Going g = g

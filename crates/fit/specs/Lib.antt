@@ -3,3 +3,4 @@ pub mod Grid
 pub mod Fits
 pub mod Numbers
 pub mod Contracts
+pub mod First

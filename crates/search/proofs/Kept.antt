@@ -18,8 +18,10 @@ use Rattle.base.proofs.Arith.{last-or}
 use Rattle.frame.specs.Image.{Image}
 use Rattle.fit.specs.Grid.{scoreOf, gradeOf}
 use Rattle.search.specs.Stages.{takes, stays, staged, replaces, more, asMuch, begun, stageFrom, entries, kAt, outcomeOf, BestTrial, nextStage, firstStage}
-use Rattle.search.specs.Stages.{secondStage, searched, lastCenter, onKept, keeps, Barren, BarrenStage}
+use Rattle.search.specs.Stages.{secondStage, searched, lastCenter, onKept, keeps, Barren, BarrenStage, KeptGrade, KeptOutside}
 use Rattle.fit.specs.Fits.{fitFor, fitsFor}
+use Rattle.fit.proofs.First.{outside-first}
+use Rattle.fit.specs.declared.Grade.the-variants.{Outside}
 use Rattle.search.specs.Stages.BarrenStage.{first, second, third}
 use Rattle.float.proofs.Ordering.{step-lt, lt-trans, lt-irrefl, lt-not-le, not-le-nan}
 use Rattle.float.specs.Floats.{f64}
@@ -123,6 +125,15 @@ graded img f q k g e = go (fitsFor (img .w) (img .h) f q k) e
     go true e = tt
     go false e = let z : _≡_ {A = ℕ} 0 1 = cc in absurd (omega arith)
 
+-- .. and that grade is its fit's
+graded-as : (img : Image) (f : FrameSpec) (q : Quad) (k : Float) (g : Grade) → outcomeOf img f q k ≡ Graded g → g ≡ gradeOf img f (fitFor (img .w) (img .h) f q k)
+unfolding outcomeOf
+graded-as img f q k g e = go (fitsFor (img .w) (img .h) f q k) e
+  where
+    go : (b : Bool) → cond b (Graded (gradeOf img f (fitFor (img .w) (img .h) f q k))) NoHomography ≡ Graded g → g ≡ gradeOf img f (fitFor (img .w) (img .h) f q k)
+    go true e = cc
+    go false e = let z : _≡_ {A = ℕ} 0 1 = cc in absurd (omega arith)
+
 module _ (img : Image) (f : FrameSpec) (q : Quad) (j : ℕ) (center : Float) (tried homographies : ℕ) where
   -- the trial that a stage keeps is its best, and the first of the best
   pub stage-best : (g : Grade) → stageFrom img f q j center tried homographies .kept ≡ Graded g → BestTrial img f q j center (stageFrom img f q j center tried homographies .fit)
@@ -142,6 +153,18 @@ module _ (img : Image) (f : FrameSpec) (q : Quad) (j : ℕ) (center : Float) (tr
             none-earlier = λ i h. subst (λ z. T (not (asMuch (outcomeOf img f q (kAt j center i)) z))) (sym p) (u i h);
           }
 
+  -- and its grade is that of its fit
+  stage-grade : (g : Grade) → stageFrom img f q j center tried homographies .kept ≡ Graded g → g ≡ gradeOf img f (stageFrom img f q j center tried homographies .fit)
+  unfolding stageFrom
+  stage-grade g e = go (kept-trial (λ i. outcomeOf img f q (kAt j center i)) (λ i. fitFor (img .w) (img .h) f q (kAt j center i)) (entries j) tried homographies)
+    where
+      go : Keeps (λ i. outcomeOf img f q (kAt j center i)) (λ i. fitFor (img .w) (img .h) f q (kAt j center i)) (entries j) (stageFrom img f q j center tried homographies)
+          → g ≡ gradeOf img f (stageFrom img f q j center tried homographies .fit)
+      go (none k h) = absurd (let z : _≡_ {A = ℕ} 0 1 = cc in omega arith)
+      go (some a b l p k r m u) =
+          let s : b ≡ g = cc in
+          sym s ∙ graded-as img f q (kAt j center a) b p ∙ ap (gradeOf img f) (sym r)
+
   -- a stage keeps none exactly when no trial of it has a homography
   pub stage-none : stageFrom img f q j center tried homographies .kept ≡ NoHomography → (i : ℕ) → i < entries j → outcomeOf img f q (kAt j center i) ≡ NoHomography
   unfolding stageFrom
@@ -152,23 +175,37 @@ module _ (img : Image) (f : FrameSpec) (q : Quad) (j : ℕ) (center : Float) (tr
       go (none k h) = h
       go (some a b l p k r m u) = absurd (let z : _≡_ {A = ℕ} 0 1 = cc in omega arith)
 
--- demand 3: the fit of a search that keeps one is the best trial of the last stage
-pub search-best : (img : Image) (f : FrameSpec) (q : Quad) (g : Grade) → searched img f q .kept ≡ Graded g → BestTrial img f q 2 (lastCenter img f q) (searched img f q .fit)
+-- a search that keeps a trial ends with its third stage
+last-stage : (img : Image) (f : FrameSpec) (q : Quad) (g : Grade) → searched img f q .kept ≡ Graded g → searched img f q
+    ≡ stageFrom img f q 2 (lastCenter img f q) (secondStage img f q .tried) (secondStage img f q .homographies)
 unfolding searched nextStage lastCenter
-search-best img f q g e = go (secondStage img f q) (secondStage img f q .kept) refl e
+last-stage img f q g e = go (secondStage img f q) (stageFrom img f q 2 (secondStage img f q .fit .radial .k) (secondStage img f q .tried) (secondStage img f q .homographies)) (secondStage img f q .kept) refl e
   where
-    go : (s : Stage) (o : Outcome) → s .kept ≡ o
-        → onKept (s .kept) s (stageFrom img f q 2 (s .fit .radial .k) (s .tried) (s .homographies)) .kept ≡ Graded g
-        → BestTrial img f q 2 (s .fit .radial .k) (onKept (s .kept) s (stageFrom img f q 2 (s .fit .radial .k) (s .tried) (s .homographies)) .fit)
-    go s NoHomography k e =
-        let d : onKept (s .kept) s (stageFrom img f q 2 (s .fit .radial .k) (s .tried) (s .homographies)) ≡ s =
-        ap (λ z. onKept z s (stageFrom img f q 2 (s .fit .radial .k) (s .tried) (s .homographies))) k in
+    go : (s n : Stage) (o : Outcome) → s .kept ≡ o → onKept (s .kept) s n .kept ≡ Graded g → onKept (s .kept) s n ≡ n
+    go s n NoHomography k e =
+        let d : onKept (s .kept) s n ≡ s = ap (λ z. onKept z s n) k in
         absurd (let c : s .kept ≡ Graded g = sym (ap (λ (z : Stage). z .kept) d) ∙ e in let z : _≡_ {A = ℕ} 0 1 = cc in omega arith)
-    go s (Graded b) k e =
-        let n = stageFrom img f q 2 (s .fit .radial .k) (s .tried) (s .homographies) in
-        let d : onKept (s .kept) s n ≡ n = ap (λ z. onKept z s n) k in
-        subst (λ z. BestTrial img f q 2 (s .fit .radial .k) (z .fit)) (sym d)
-        (stage-best img f q 2 (s .fit .radial .k) (s .tried) (s .homographies) g (sym (ap (λ (z : Stage). z .kept) d) ∙ e))
+    go s n (Graded b) k e = ap (λ z. onKept z s n) k
+
+module _ (img : Image) (f : FrameSpec) (q : Quad) (g : Grade) (e : searched img f q .kept ≡ Graded g) where
+  -- what the third stage keeps
+  last-keeps : stageFrom img f q 2 (lastCenter img f q) (secondStage img f q .tried) (secondStage img f q .homographies) .kept ≡ Graded g
+  last-keeps = sym (ap (λ (z : Stage). z .kept) (last-stage img f q g e)) ∙ e
+
+  -- demand 3: the fit of a search that keeps one is the best trial of the last stage
+  pub search-best : BestTrial img f q 2 (lastCenter img f q) (searched img f q .fit)
+  search-best =
+      subst (λ (z : Stage). BestTrial img f q 2 (lastCenter img f q) (z .fit)) (sym (last-stage img f q g e))
+      (stage-best img f q 2 (lastCenter img f q) (secondStage img f q .tried) (secondStage img f q .homographies) g last-keeps)
+
+-- .. and the grade beside it is that fit's
+pub kept-grade : KeptGrade
+kept-grade img f q g e =
+    stage-grade img f q 2 (lastCenter img f q) (secondStage img f q .tried) (secondStage img f q .homographies) g (last-keeps img f q g e)
+    ∙ ap (λ (z : Stage). gradeOf img f (z .fit)) (sym (last-stage img f q g e))
+
+pub kept-outside : KeptOutside
+kept-outside img f q cell e = outside-first img f (searched img f q .fit) cell (sym (kept-grade img f q (Outside cell) e))
 
 -- ---- the counts
 

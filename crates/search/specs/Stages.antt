@@ -8,11 +8,13 @@ use Rattle.base.specs.Loops.{turns}
 use Rattle.float.specs.Floats.{_⊕_, _⊖_, _⊗_, _⊘_, f64, d64, roundOf, asUsize, clampOf}
 use Rattle.frame.specs.Image.{Image}
 use Rattle.fit.specs.Grid.{gradeOf, scoreOf}
+use Rattle.fit.specs.First.{FirstOutside}
 use Rattle.fit.specs.Fits.{fitsFor, fitFor, noFit}
 use Rattle.frame.specs.declared.FrameSpec.{FrameSpec}
 use Rattle.frame.specs.declared.Quad.{Quad}
 use Rattle.fit.specs.declared.GeometryFit.{GeometryFit}
 use Rattle.fit.specs.declared.Grade.{Grade}
+use Rattle.fit.specs.declared.Grade.the-variants.{Outside}
 use Rattle.search.specs.declared.Outcome.{Outcome}
 use Rattle.search.specs.declared.Stage.{Stage}
 use Rattle.search.specs.declared.Outcome.the-variants.{NoHomography, Graded}
@@ -143,3 +145,17 @@ pub record BestTrial (img : Image) (f : FrameSpec) (q : Quad) (j : ℕ) (center 
       → T (not (more (outcomeOf img f q (kAt j center i)) (outcomeOf img f q (kAt j center entry))))
   pub none-earlier : (i : ℕ) → i < entry → T (not (asMuch (outcomeOf img f q (kAt j center i)) (outcomeOf img f q
       (kAt j center entry))))
+
+-- ---- the grade that a search reports, by meaning; proofs/Kept shows both
+
+-- [12.6] it is that of the reported fit
+abbrev pub KeptGrade : Type 0
+KeptGrade =
+    (img : Image) (f : FrameSpec) (q : Quad) (g : Grade)
+    → searched img f q .kept ≡ Graded g → g ≡ gradeOf img f (searched img f q .fit)
+
+-- [19.2] .. and so an outside one names the first cell, by row, then column, that this fit takes outside the picture
+abbrev pub KeptOutside : Type 0
+KeptOutside =
+    (img : Image) (f : FrameSpec) (q : Quad) (cell : ℕ)
+    → searched img f q .kept ≡ Graded (Outside cell) → FirstOutside img f (searched img f q .fit) cell

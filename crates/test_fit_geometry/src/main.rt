@@ -165,7 +165,6 @@ fn print_matrix(m: [f64; 9]) {
     }
 }
 
-// The original has one float: outside and too few are its −∞.
 fn print_kept(o: Outcome) {
     match o {
         Outcome::NoHomography => print_word(1),
@@ -173,10 +172,20 @@ fn print_kept(o: Outcome) {
     }
 }
 
+// The original's float, in which outside and too few are −∞; then the grade, and an outside one's cell.
 fn print_grade(g: Grade) {
     match g {
-        Grade::Score(s) => print_float(s),
-        Grade::Outside(_) => print_float(-1.0 / 0.0),
-        Grade::TooFew => print_float(-1.0 / 0.0),
+        Grade::Score(s) => {
+            print_float(s);
+            print_word(0);
+        }
+        Grade::Outside(cell) => {
+            print_float(-1.0 / 0.0);
+            print_counts(1, cell);
+        }
+        Grade::TooFew => {
+            print_float(-1.0 / 0.0);
+            print_word(2);
+        }
     }
 }

@@ -5,11 +5,13 @@
 //             ring's; the same without that ring
 //   2 to 4    one accepted under a frame of 192 by 192, one refused by 7, one by 9
 //   5 to 55   a sample of every kind, 27 of them accepted
+//   56, 57    a kept trial with cells outside the picture, of which the first by row is neither the
+//             first by column nor the last
 mod file; // file.rt: a capture file
 mod print; // print.rt: an answer's lines
 
 fn main() {
-    answer_all(56);
+    answer_all(58);
 }
 
 // Rectifies the captures 0.cap, 1.cap .. of the folder that the program is run in, and prints each

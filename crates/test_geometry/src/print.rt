@@ -151,7 +151,10 @@ fn grade(g: Grade) {
             floats(b"grade scored", &score);
             line(b"", &[]);
         }
-        Grade::Outside(_) => line(b"grade outside", &[]),
+        Grade::Outside(cell) => {
+            let number = [cell as u64];
+            line(b"grade outside", &number);
+        }
         Grade::TooFew => line(b"grade few", &[]),
     }
 }

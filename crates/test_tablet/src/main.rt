@@ -22,6 +22,9 @@ fn main() {
     looks::fiducial_candidates(&capture);
     let fit = fit_for(&points);
     grid_score(&capture, &fit);
+    let mut moved = fit;
+    moved[2] = moved[2] + 40.0;
+    grid_score(&capture, &moved);
     warp_with(&capture, &fit);
     bilinear(&capture);
     lengths();

@@ -106,6 +106,9 @@ fn others(c: &Case, a: &Answer) -> Result<(), String> {
     let (mut areas, means, _) = m.lend();
     let number = ffi::fit_geometry(&c.data, c.w, c.h, c.frame, &mut areas, means, &mut counts, &mut fit);
     eq("fit_geometry", number, a.number)?;
+    if a.flat.is_some() {
+        fitted(&counts, &fit, c, a).map_err(|e| format!("fit_geometry: {e}"))?;
+    }
     if let Some(look) = &a.look {
         looked(&m, &counts, a).map_err(|e| format!("fit_geometry: {e}"))?;
         // Any nonzero byte is dark.
@@ -116,8 +119,6 @@ fn others(c: &Case, a: &Answer) -> Result<(), String> {
         each("label_blobs' marks", &m.seen, &look.mask, |b| b)?;
     }
     if let Some(flat) = &a.flat {
-        // counts has been written over by label_blobs; fit_geometry's fit is compared with the original's.
-        each("fit_geometry's fit", &fit[..13], &flat.fit, bits)?;
         let (mut grade, mut score) = ([77; 2], [f64::NAN]);
         let number = ffi::grid_score(&c.data, c.w, c.h, c.frame, &flat.fit, &mut m.means, &mut grade, &mut score);
         eq("grid_score", number, 0)?;

@@ -324,25 +324,18 @@ fn grid_score(w: &[u64], x: &[f64]) -> Result<(), String> {
     graded(&img, f, &x[7..20], grade, score[0])
 }
 
-/// A grade and its score are the original's; a cell that is named has a tap outside.
+/// A grade, its cell and its score are the original's.
 pub fn graded(img: &RgbImage, f: Frame, fit: &[f64], grade: [u64; 2], score: f64) -> Result<(), String> {
-    let fit = o::fit(fit);
-    let (theirs, rust) = o::grade(img, f, &fit);
+    let (theirs, rust) = o::grade(img, f, &o::fit(fit));
     same("score", &[score], &[rust])?;
     let wanted = match theirs {
-        o::Grade::Score(_) => ffi::SCORED,
-        o::Grade::Outside => ffi::OUTSIDE,
-        o::Grade::TooFew => ffi::TOO_FEW,
+        o::Grade::Score(_) => [ffi::SCORED, 0],
+        o::Grade::Outside(cell) => [ffi::OUTSIDE, cell as u64],
+        o::Grade::TooFew => [ffi::TOO_FEW, 0],
     };
-    if grade[0] != wanted {
-        return Err(format!("grade {}, the original's is {theirs:?}", grade[0]));
+    if grade == wanted {
+        Ok(())
+    } else {
+        Err(format!("grade and cell {grade:?}, the original's are {wanted:?}"))
     }
-    let named = grade[1] as usize;
-    if grade[0] == ffi::OUTSIDE && !o::names_outside(&o::spec(f), &fit, img.w, img.h, named) {
-        return Err(format!("cell {named} is named, which is not a sampled cell with a tap outside"));
-    }
-    if grade[0] != ffi::OUTSIDE && named != 0 {
-        return Err(format!("cell {named} is named without being outside"));
-    }
-    Ok(())
 }

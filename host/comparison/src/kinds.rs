@@ -18,6 +18,7 @@ pub const KINDS: &[Kind] = &[
     ("noise", noise),
     ("odd frame", odd_frame),
     ("few cells", few_cells),
+    ("large cells", large_cells),
     ("long", long),
 ];
 
@@ -258,6 +259,21 @@ pub fn few_cells(r: &mut Random) -> Case {
     let card = some_card(r, f);
     let scale = r.within(0.6, 0.9);
     let s = Scene::straight((f.width as f64 * scale) as usize, (f.height as f64 * scale) as usize, card, 0.97).shaken(r, 1.0);
+    taken(s, r)
+}
+
+/// Fewer than 16 sampled cells, and wide for the margin: the first lens term tried stays, and can put a cell off the picture.
+pub fn large_cells(r: &mut Random) -> Case {
+    let f = loop {
+        let (cols, rows, cell, margin) = (r.between(4, 12), r.between(4, 12), r.between(12, 48), r.between(56, 64));
+        let (width, height) = (2 * margin + cols * cell + r.below(cell), 2 * margin + rows * cell + r.below(cell));
+        if cols.div_ceil(3) * rows.div_ceil(3) < 16 && width.min(height) >= 4 * margin {
+            break scene::Frame { width, height, cell, margin };
+        }
+    };
+    let card = some_card(r, f);
+    let (scale, share) = (r.within(0.5, 0.8), r.within(0.97, 1.08));
+    let s = Scene::straight((f.width as f64 * scale) as usize, (f.height as f64 * scale) as usize, card, share).shaken(r, 1.0);
     taken(s, r)
 }
 

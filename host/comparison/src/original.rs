@@ -50,7 +50,8 @@ pub struct Look {
 #[derive(Clone, Copy, Debug, PartialEq)]
 pub enum Grade {
     Score(f64),
-    Outside,
+    /// The first sampled cell by row, then column, with a tap outside: row·cols + column.
+    Outside(usize),
     TooFew,
 }
 
@@ -165,11 +166,8 @@ fn homographies(img: &RgbImage, f: &FrameSpec, points: &[[f64; 2]; 4]) -> usize 
 }
 
 /// A tap of the cell lies outside the picture.
-pub fn outside(f: &FrameSpec, fit: &g::GeometryFit, w: usize, h: usize, cell: usize) -> bool {
-    if f.cols() == 0 {
-        return false;
-    }
-    let (x0, y0) = f.cell_origin(cell % f.cols(), cell / f.cols());
+fn outside(f: &FrameSpec, fit: &g::GeometryFit, w: usize, h: usize, [column, row]: [usize; 2]) -> bool {
+    let (x0, y0) = f.cell_origin(column, row);
     (0..9).any(|i| {
         let tap = |n: usize, from: usize| from as f64 + inner::TAPS[n] * f.cell as f64;
         let p = fit.map([tap(i % 3, x0), tap(i / 3, y0)]);
@@ -177,25 +175,20 @@ pub fn outside(f: &FrameSpec, fit: &g::GeometryFit, w: usize, h: usize, cell: us
     })
 }
 
-/// The number is that of a sampled cell with a tap outside.
-pub fn names_outside(f: &FrameSpec, fit: &g::GeometryFit, w: usize, h: usize, cell: usize) -> bool {
-    f.cols() > 0
-        && cell < f.cols() * f.rows()
-        && (cell % f.cols()).is_multiple_of(3)
-        && (cell / f.cols()).is_multiple_of(3)
-        && outside(f, fit, w, h, cell)
+/// Column and row of each sampled cell with a tap outside the picture, by row, then column. The original has this test, and
+/// gives −∞ without the cell.
+pub fn cells_outside(f: &FrameSpec, fit: &g::GeometryFit, w: usize, h: usize) -> Vec<[usize; 2]> {
+    let sampled = (0..f.rows()).step_by(3).flat_map(|row| (0..f.cols()).step_by(3).map(move |column| [column, row]));
+    sampled.filter(|&cell| outside(f, fit, w, h, cell)).collect()
 }
 
 pub fn grade(img: &RgbImage, f: Frame, fit: &g::GeometryFit) -> (Grade, f64) {
     let s = spec(f);
     let score = g::grid_score(img, &s, fit);
-    let some_outside = (0..s.rows()).step_by(3).any(|r| (0..s.cols()).step_by(3).any(|c| outside(&s, fit, img.w, img.h, r * s.cols() + c)));
-    let grade = if some_outside {
-        Grade::Outside
-    } else if sampled(f) < 16 {
-        Grade::TooFew
-    } else {
-        Grade::Score(score)
+    let grade = match cells_outside(&s, fit, img.w, img.h).first() {
+        Some([column, row]) => Grade::Outside(row * s.cols() + column),
+        None if sampled(f) < 16 => Grade::TooFew,
+        None => Grade::Score(score),
     };
     (grade, score)
 }

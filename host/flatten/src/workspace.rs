@@ -51,7 +51,8 @@ impl Fit {
 #[derive(Clone, Copy, Debug, PartialEq)]
 pub enum Grade {
     Score(f64),
-    /// A sampled cell, row·cols + column, lies outside the picture: the lens term has no evidence.
+    /// A sampled cell has a tap outside the picture, and the lens term no evidence: the first by row, then column, as
+    /// row·cols + column over all cells.
     Outside(usize),
     /// Fewer than 16 cells are sampled: the lens term has no evidence.
     TooFew,

@@ -35,20 +35,23 @@ pub fn sampled(f: &FrameSpec) -> usize {
     f.rows().div_ceil(3) * f.cols().div_ceil(3)
 }
 
-/// The first cell, by rows, with a tap outside the picture.
+/// The taps of a cell that lie outside the picture, by their numbers.
+pub fn taps_outside(img: &RgbImage, f: &FrameSpec, fit: &GeometryFit, [c, r]: [usize; 2]) -> Vec<usize> {
+    let (x0, y0) = f.cell_origin(c, r);
+    let place = |i: usize| fit.map([x0 as f64 + TAPS[i % 3] * f.cell as f64, y0 as f64 + TAPS[i / 3] * f.cell as f64]);
+    let off = |p: [f64; 2]| p[0] < 0.0 || p[1] < 0.0 || p[0] >= img.w as f64 || p[1] >= img.h as f64;
+    (0..9).filter(|&i| off(place(i))).collect()
+}
+
+/// Column and row of each sampled cell with a tap outside the picture, by row, then column.
+pub fn cells_outside(img: &RgbImage, f: &FrameSpec, fit: &GeometryFit) -> Vec<[usize; 2]> {
+    let sampled = (0..f.rows()).step_by(3).flat_map(|r| (0..f.cols()).step_by(3).map(move |c| [c, r]));
+    sampled.filter(|&cell| !taps_outside(img, f, fit, cell).is_empty()).collect()
+}
+
+/// The number of the first of them.
 pub fn outside(img: &RgbImage, f: &FrameSpec, fit: &GeometryFit) -> Option<usize> {
-    for r in (0..f.rows()).step_by(3) {
-        for c in (0..f.cols()).step_by(3) {
-            let (x0, y0) = f.cell_origin(c, r);
-            for i in 0..9 {
-                let p = fit.map([x0 as f64 + TAPS[i % 3] * f.cell as f64, y0 as f64 + TAPS[i / 3] * f.cell as f64]);
-                if p[0] < 0.0 || p[1] < 0.0 || p[0] >= img.w as f64 || p[1] >= img.h as f64 {
-                    return Some(r * f.cols() + c);
-                }
-            }
-        }
-    }
-    None
+    cells_outside(img, f, fit).first().map(|[c, r]| r * f.cols() + c)
 }
 
 pub fn noise(w: usize, h: usize, rng: &mut Random) -> RgbImage {

@@ -19,13 +19,13 @@
 //!   corners TL TR BR BL                places in the patch list; a refusal ends the block before this line
 //!   matrix M0 M1 M2 M3 M4 M5 M6 M7 M8
 //!   lens K CX CY NORM
-//!   grade scored SCORE                 or `grade outside`, or `grade few`
+//!   grade scored SCORE                 or `grade outside CELL`, or `grade few`
 //!   trials 78 HOMOGRAPHIES
 //!   canonical SUM
 //! Numbers are decimal; a float is its 64 bits as sixteen hexadecimal digits, lower case, every NaN as 7ff8000000000000. A SUM
 //! begins as 0 and becomes (SUM · 65599 + number + 1) mod 4294967291 with each byte or number.
 
-use comparison::original::{self, Grade};
+use comparison::original::{self, Answer, Grade};
 use comparison::{bits, kinds, Case};
 use scene::{Card, Cells, Grating, Random, Scene};
 use std::fmt::Write;
@@ -57,7 +57,7 @@ fn answer(n: usize, c: &Case) -> String {
         let _ = writeln!(o, "corners {tl} {tr} {br} {bl}\nmatrix {}\nlens {}", floats(&flat.fit[..9]), floats(&flat.fit[9..]));
         let _ = match flat.grade {
             Grade::Score(s) => writeln!(o, "grade scored {}", floats(&[s])),
-            Grade::Outside => writeln!(o, "grade outside"),
+            Grade::Outside(cell) => writeln!(o, "grade outside {cell}"),
             Grade::TooFew => writeln!(o, "grade few"),
         };
         let _ = writeln!(o, "trials 78 {}\ncanonical {}", flat.homographies, sum(flat.canonical.iter().map(|&b| b as u64)));
@@ -88,15 +88,28 @@ fn incident() -> Vec<Case> {
     unreachable!()
 }
 
-/// The first capture of a kind, from a seed on, that the original answers with a number, no side longer than `longest`.
-fn first(kind: fn(&mut Random) -> Case, number: u32, longest: usize, seed: &mut u64) -> Case {
+/// The first capture of a kind, from a seed on, with an answer that is wanted, no side longer than `longest`.
+fn first_with(kind: fn(&mut Random) -> Case, wanted: impl Fn(&Case, &Answer) -> bool, longest: usize, seed: &mut u64) -> Case {
     loop {
         *seed += 1;
         let c = kind(&mut Random::new(*seed));
-        if c.w.max(c.h) <= longest && original::answer(&c).number == number {
+        if c.w.max(c.h) <= longest && wanted(&c, &original::answer(&c)) {
             return c;
         }
     }
+}
+
+/// .. that the original answers with a number.
+fn first(kind: fn(&mut Random) -> Case, number: u32, longest: usize, seed: &mut u64) -> Case {
+    first_with(kind, |_, a| a.number == number, longest, seed)
+}
+
+/// The first cell outside of the kept trial, where it is neither the first by column, nor the last, nor cell 0.
+fn first_outside(c: &Case, a: &Answer) -> Option<[usize; 2]> {
+    let flat = a.flat.as_ref()?;
+    let cells = original::cells_outside(&original::spec(c.frame), &original::fit(&flat.fit), c.w, c.h);
+    let first = *cells.first()?;
+    (Some(&first) != cells.iter().min() && Some(&first) != cells.last() && first != [0, 0]).then_some(first)
 }
 
 /// A card with wide markers in a picture of 64 to 100 pixels a side.
@@ -211,6 +224,8 @@ fn replay() -> Vec<Case> {
             out.push(first(kind, number, longest, &mut seed));
         }
     }
+    let outside = |below: bool| move |c: &Case, a: &Answer| first_outside(c, a).is_some_and(|[_, row]| (row > 0) == below);
+    out.extend([false, true].map(|below| first_with(kinds::large_cells, outside(below), 200, &mut seed)));
     out
 }
 

@@ -11,8 +11,8 @@
 //
 // test_fit_geometry: stdin is records of 8 words (w, h, the frame, the capture's length in bytes, the length of the area of
 // means) with the capture behind them. stdout has the refusal's number; after 7 the numbers of patches and candidates;
-// after 0 those, then the four places in the patch list, matrix, lens, the kept trial's score, and the counts of
-// trials and of homographies. Every NaN is written as one. The original has no refusal numbers: they are
+// after 0 those, then the four places in the patch list, matrix, lens, the kept trial's score and grade as for grid_score,
+// and the counts of trials and of homographies. Every NaN is written as one. The original has no refusal numbers: they are
 // those of docs/REQUIREMENTS.md, 2.
 use lpcorepub::frame::FrameSpec;
 use lpcorepub::geometry::{
@@ -20,7 +20,7 @@ use lpcorepub::geometry::{
     GeometryFit, Homography, Radial,
 };
 use lpcorepub::image::RgbImage;
-use vectors::pictures::{card, frame, frame_held, frame_words, noise, outside, photograph, put_fit, sampled};
+use vectors::pictures::{card, cells_outside, frame, frame_held, frame_words, noise, outside, photograph, put_fit, sampled, taps_outside};
 use vectors::stages::searched;
 use vectors::{Random, Vectors};
 
@@ -70,6 +70,11 @@ fn ask_grid_score(v: &mut Vectors, img: &RgbImage, f: &FrameSpec, fit: &Geometry
     v.word(0);
     let score = grid_score(img, f, fit);
     v.float(score);
+    put_grade(v, img, f, fit, score);
+}
+
+// 0 for a score, 1 for outside with the cell, 2 for too few cells.
+fn put_grade(v: &mut Vectors, img: &RgbImage, f: &FrameSpec, fit: &GeometryFit, score: f64) {
     match outside(img, f, fit) {
         Some(cell) => {
             assert!(score == f64::NEG_INFINITY);
@@ -82,6 +87,37 @@ fn ask_grid_score(v: &mut Vectors, img: &RgbImage, f: &FrameSpec, fit: &Geometry
 
 fn scaled(sx: f64, sy: f64, dx: f64, dy: f64) -> Homography {
     Homography::from_mat([[sx, 0.0, dx], [0.0, sy, dy], [0.0, 0.0, 1.0]])
+}
+
+// Which cell is named, where another way to go through the cells, or to count them, names another one.
+fn name_cells(v: &mut Vectors, picture: &RgbImage) {
+    let affine = |x: [f64; 3], y: [f64; 3]| GeometryFit {
+        h: Homography::from_mat([x, y, [0.0, 0.0, 1.0]]),
+        radial: Radial::new(picture.w, picture.h, 0.0),
+    };
+    let (wide, tall) = (frame(47, 39, 4, 2), frame(39, 47, 4, 2));
+    assert!((wide.cols(), wide.rows()) == (10, 8) && (tall.cols(), tall.rows()) == (8, 10));
+    let mut name = |f: &FrameSpec, fit: GeometryFit, first: [usize; 2], others: &[[usize; 2]]| {
+        let cells = cells_outside(picture, f, &fit);
+        assert!(cells[0] == first && others.iter().all(|cell| cells[1..].contains(cell)), "{cells:?}");
+        ask_grid_score(v, picture, f, &fit, sampled(f));
+    };
+    let upright = [0.0, 1.0, 0.0];
+    // off to the right above, and to the left below: the first by column is another, and so is the last
+    name(&wide, affine([1.0, -0.6, 12.0], upright), [9, 0], &[[0, 6]]);
+    name(&tall, affine([1.2, -0.6, 18.0], [0.0, 0.8, 0.0]), [6, 0], &[[0, 9]]);
+    // off to the right below: a row and a column that are not the first, no multiple of 3 in a row
+    name(&wide, affine([1.0, 0.6, 0.0], upright), [9, 3], &[[9, 6]]);
+    name(&tall, affine([1.4, 0.4, 0.0], [0.0, 0.8, 0.0]), [6, 6], &[[6, 9]]);
+    // of the first cell only a later tap, of another one its first tap
+    for (shift, tap) in [(9.5, 2), (10.2, 1)] {
+        let fit = affine([1.0, -0.6, shift], upright);
+        assert!(taps_outside(picture, &wide, &fit, [9, 0])[0] == tap && taps_outside(picture, &wide, &fit, [0, 6])[0] == 0);
+        name(&wide, fit, [9, 0], &[[0, 6]]);
+    }
+    // a NaN in one coordinate, and the other outside
+    name(&wide, affine([f64::NAN, 0.0, 0.0], [0.3, 1.0, 2.0]), [9, 6], &[]);
+    name(&wide, affine([1.0, 0.6, 0.0], [f64::NAN, 1.0, 0.0]), [9, 3], &[[9, 6]]);
 }
 
 fn grid_vectors() -> Vectors {
@@ -137,6 +173,7 @@ fn grid_vectors() -> Vectors {
         ask_grid_score(&mut v, &picture, &sixteen, &at(h, 0.0), 16);
         ask_grid_score(&mut v, &picture, &sixteen, &at(h, 0.1), 16);
     }
+    name_cells(&mut v, &picture);
     let identity = at(scaled(1.0, 1.0, 0.0, 0.0), 0.0);
     // refusals
     ask_grid_score(&mut v, &picture, &frame(36, 36, 513, 0), &identity, 0);
@@ -204,6 +241,7 @@ fn ask_fit_geometry(v: &mut Vectors, name: &str, img: &RgbImage, f: &FrameSpec, 
     }
     put_fit(v, &fit);
     v.float(score);
+    put_grade(v, img, f, &fit, score);
     v.word(78);
     v.word(homographies(img, f));
 }
@@ -227,6 +265,13 @@ fn fit_vectors() -> Vectors {
     ask_fit_geometry(&mut v, "few cells", &d, &few, 9);
     let e = photograph(&card(&few, &mut rng), 196, 200, tilted, 0.02);
     ask_fit_geometry(&mut v, "few cells, tilted", &e, &few, 9);
+    // .. and puts cells off the picture, of which the first by row is neither the first by column nor the last
+    let large = frame(366, 394, 31, 56);
+    let near = [[-7.0, -7.0], [190.0, -7.0], [190.0, 204.0], [-7.0, 204.0]];
+    let g = photograph(&card(&large, &mut rng), 183, 197, near, 0.0);
+    let cells = cells_outside(&g, &large, &fit_geometry(&g, &large).unwrap());
+    assert!(cells.first() != cells.iter().min() && cells.first() != cells.last(), "{cells:?}");
+    ask_fit_geometry(&mut v, "large cells", &g, &large, 9);
     // refusals
     ask_fit_geometry(&mut v, "blank", &RgbImage::new(32, 32), &fine, 1024);
     ask_fit_geometry(&mut v, "small", &RgbImage::new(31, 32), &fine, 1024);

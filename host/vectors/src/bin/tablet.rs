@@ -213,13 +213,22 @@ fn pictures(v: &mut Vectors, img: &RgbImage, f: &FrameSpec) {
     page(v, &l.candidates);
 }
 
+fn scored(v: &mut Vectors, img: &RgbImage, f: &FrameSpec, fit: &GeometryFit) {
+    v.word(0);
+    graded(v, img, f, fit);
+    v.float(grid_score(img, f, fit));
+}
+
 fn fits(v: &mut Vectors, img: &RgbImage, f: &FrameSpec, points: &Points) -> GeometryFit {
     let fit = fit_for(img, f, points, 0.015).unwrap();
     v.word(0);
     put_fit(v, &fit);
-    v.word(0);
-    graded(v, img, f, &fit);
-    v.float(grid_score(img, f, &fit));
+    scored(v, img, f, &fit);
+    let mut m = fit.h.m;
+    m[0][2] += 40.0;
+    let moved = GeometryFit { h: Homography::from_mat(m), radial: fit.radial };
+    assert!(outside(img, f, &moved).is_some_and(|cell| cell > 0));
+    scored(v, img, f, &moved);
     v.word(0);
     bytes(v, &warp_with(img, f, &fit).data);
     v.word(0);
