@@ -179,7 +179,9 @@ module _ (img : Image) (f : FrameSpec) (q : Quad) (j : ℕ) (center : Float) (tr
 last-stage : (img : Image) (f : FrameSpec) (q : Quad) (g : Grade) → searched img f q .kept ≡ Graded g → searched img f q
     ≡ stageFrom img f q 2 (lastCenter img f q) (secondStage img f q .tried) (secondStage img f q .homographies)
 unfolding searched nextStage lastCenter
-last-stage img f q g e = go (secondStage img f q) (stageFrom img f q 2 (secondStage img f q .fit .radial .k) (secondStage img f q .tried) (secondStage img f q .homographies)) (secondStage img f q .kept) refl e
+last-stage img f q g e =
+    let s = secondStage img f q in
+    go s (stageFrom img f q 2 (s .fit .radial .k) (s .tried) (s .homographies)) (s .kept) refl e
   where
     go : (s n : Stage) (o : Outcome) → s .kept ≡ o → onKept (s .kept) s n .kept ≡ Graded g → onKept (s .kept) s n ≡ n
     go s n NoHomography k e =

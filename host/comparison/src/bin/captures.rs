@@ -2,7 +2,7 @@
 //!   incident   0.cap: a panel behind a grating, more than 256 patches before the lower right ring's, and the other rings and a
 //!              ring-shaped blob of the payload among the first 256; 1.cap: the same without the lower right ring
 //!   path       three captures: 0.cap accepted (192,192,1,48), 1.cap refused by 7, 2.cap refused by 9
-//!   replay     a sample of every kind
+//!   replay     a sample of every kind, and two whose kept trial has cells outside the picture
 //!   all        these three in turn: data/ and stdout of the program crate test_geometry
 //!
 //! Each capture is DIR/N.cap: six 64-bit words, little-endian (w, h, and the frame's width, height, cell, margin), then its

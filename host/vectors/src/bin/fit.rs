@@ -95,6 +95,7 @@ fn name_cells(v: &mut Vectors, picture: &RgbImage) {
         h: Homography::from_mat([x, y, [0.0, 0.0, 1.0]]),
         radial: Radial::new(picture.w, picture.h, 0.0),
     };
+    // columns in no multiple of 3, and not as many as rows
     let (wide, tall) = (frame(47, 39, 4, 2), frame(39, 47, 4, 2));
     assert!((wide.cols(), wide.rows()) == (10, 8) && (tall.cols(), tall.rows()) == (8, 10));
     let mut name = |f: &FrameSpec, fit: GeometryFit, first: [usize; 2], others: &[[usize; 2]]| {
@@ -106,7 +107,7 @@ fn name_cells(v: &mut Vectors, picture: &RgbImage) {
     // off to the right above, and to the left below: the first by column is another, and so is the last
     name(&wide, affine([1.0, -0.6, 12.0], upright), [9, 0], &[[0, 6]]);
     name(&tall, affine([1.2, -0.6, 18.0], [0.0, 0.8, 0.0]), [6, 0], &[[0, 9]]);
-    // off to the right below: a row and a column that are not the first, no multiple of 3 in a row
+    // off to the right below: a row and a column that are not the first
     name(&wide, affine([1.0, 0.6, 0.0], upright), [9, 3], &[[9, 6]]);
     name(&tall, affine([1.4, 0.4, 0.0], [0.0, 0.8, 0.0]), [6, 6], &[[6, 9]]);
     // of the first cell only a later tap, of another one its first tap
