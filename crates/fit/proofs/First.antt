@@ -106,14 +106,17 @@ module _ (img : Image) (f : FrameSpec) (fit : GeometryFit) where
       subst (λ r. HasTapOutside img f fit (3 * (column / 3)) r) (sym (row-is f s)) (subst (λ c. HasTapOutside img f fit c row) (sym (column-is f s)) o)
 
   -- ---- the taps of a cell
-  cell-steps : (x y : ℕ) → Steps (tapStep img f fit y x) (λ cell i. refl) 9 (cellStep img f fit y x Going)
+  tap-stays : (y x cell i : ℕ) → tapStep img f fit y x i (Ended cell) ≡ Ended cell
+  tap-stays y x cell i = refl
+
+  cell-steps : (x y : ℕ) → Steps (tapStep img f fit y x) (tap-stays y x) 9 (cellStep img f fit y x Going)
   unfolding cellStep
-  cell-steps x y = steps (tapStep img f fit y x) (λ cell i. refl) 9
+  cell-steps x y = steps (tapStep img f fit y x) (tap-stays y x) 9
 
   cell-goes : (x y : ℕ) → (Off x y → ⊥) → cellStep img f fit y x Going ≡ Going
   unfolding cellStep
   cell-goes x y none =
-      all-go (tapStep img f fit y x) (λ cell i. refl) 9
+      all-go (tapStep img f fit y x) (tap-stays y x) 9
       (λ i h. ⊎-elim
       (λ t. absurd (none (record { tap = i; nine = h; outside = holds t })))
       (λ e. sym (tap-in img f fit y x i e))
@@ -123,7 +126,7 @@ module _ (img : Image) (f : FrameSpec) (fit : GeometryFit) where
   unfolding cellStep
   cell-went x y e o =
       ⊎-elim
-      (λ t. going-not-ended (sym (went (tapStep img f fit y x) (λ cell i. refl) 9 e (o .tap) (o .nine)) ∙ tap-out img f fit y x (o .tap) t))
+      (λ t. going-not-ended (sym (went (tapStep img f fit y x) (tap-stays y x) 9 e (o .tap) (o .nine)) ∙ tap-out img f fit y x (o .tap) t))
       (λ d. refuted _ d (o .outside))
       (either (tapOutside img f fit (3 * x) (3 * y) (o .tap)))
 
@@ -138,14 +141,14 @@ module _ (img : Image) (f : FrameSpec) (fit : GeometryFit) where
   cell-ended : (x y cell : ℕ) → cellStep img f fit y x Going ≡ Ended cell → Off x y × (Ended cell ≡ Ended (numberOf x y))
   cell-ended x y cell w = by-steps (cell-steps x y)
     where
-      by-steps : Steps (tapStep img f fit y x) (λ cell i. refl) 9 (cellStep img f fit y x Going) → Off x y × (Ended cell ≡ Ended (numberOf x y))
+      by-steps : Steps (tapStep img f fit y x) (tap-stays y x) 9 (cellStep img f fit y x Going) → Off x y × (Ended cell ≡ Ended (numberOf x y))
       by-steps (goes e each) = absurd (going-not-ended (sym e ∙ w))
       by-steps (ends c i e h at before) = tap-ends x y i cell h (at ∙ sym e ∙ w)
 
   cell-ends : (x y : ℕ) → Off x y → cellStep img f fit y x Going ≡ Ended (numberOf x y)
   cell-ends x y o = by-steps (cell-steps x y)
     where
-      by-steps : Steps (tapStep img f fit y x) (λ cell i. refl) 9 (cellStep img f fit y x Going) → cellStep img f fit y x Going ≡ Ended (numberOf x y)
+      by-steps : Steps (tapStep img f fit y x) (tap-stays y x) 9 (cellStep img f fit y x Going) → cellStep img f fit y x Going ≡ Ended (numberOf x y)
       by-steps (goes e each) = absurd (cell-went x y e o)
       by-steps (ends c i e h at before) = e ∙ tap-ends x y i c h at .1
 

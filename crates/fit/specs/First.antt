@@ -45,7 +45,7 @@ OutsideIs =
     (img : Image) (f : FrameSpec) (fit : GeometryFit) (cell : ℕ)
     → (gradeOf img f fit ≡ Outside cell) ↔ FirstOutside img f fit cell
 
--- [19.1] no other number is the first cell's: a cross at it stands where it stood
+-- [19.1] only one number is the first cell's, so that a cross at it does not jump between builds
 abbrev pub OneFirst : Type 0
 OneFirst =
     (img : Image) (f : FrameSpec) (fit : GeometryFit) (a b : ℕ)

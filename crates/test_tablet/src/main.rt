@@ -22,6 +22,7 @@ fn main() {
     looks::fiducial_candidates(&capture);
     let fit = fit_for(&points);
     grid_score(&capture, &fit);
+    // The card moved to the right, in part off the picture: an outside grade, with its cell.
     let mut moved = fit;
     moved[2] = moved[2] + 40.0;
     grid_score(&capture, &moved);

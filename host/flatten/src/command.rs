@@ -118,7 +118,11 @@ fn describe(messages: &mut Messages, workspace: &Workspace, card: &Rectified, o:
             let cells = workspace.sampled_cells();
             ("no score".into(), Some(format!("{unsupported}: too few cells ({cells} are sampled, 16 are needed)")))
         }
-        Grade::Outside(cell) => ("no score".into(), Some(format!("{unsupported}: cell {cell} is outside"))),
+        Grade::Outside(cell) => {
+            let cols = workspace.frame().grid().map_or(1, |(cols, _)| cols.max(1));
+            let (row, column) = (cell / cols, cell % cols);
+            ("no score".into(), Some(format!("{unsupported}: cell {cell} is the first outside it (row {row}, column {column}, from 0)")))
+        }
     };
     messages.say(&format!("flatten: {score}, phase {:.3}", card.phase));
     if let Some(warning) = warning {

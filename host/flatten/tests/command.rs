@@ -91,6 +91,24 @@ fn too_few_cells_are_warned_of() {
     assert_eq!(lines.next(), Some(warning));
 }
 
+/// By row, then column; the number counts all cells, of which the second card has eleven in a row.
+#[test]
+fn the_first_cell_outside_is_warned_of_and_reported() {
+    let folder = Folder::new("outside");
+    for (frame, w, h, share, cell, place) in
+        [("366,394,31,56", 183, 197, 1.04, 3, "row 0, column 3"), ("462,310,31,56", 231, 155, 1.07, 33, "row 3, column 0")]
+    {
+        let out = flatten(
+            &["--frame", frame, "--report", path(&folder.file("r"))],
+            &p6(w, h, &past_the_picture(frame.parse().unwrap(), w, h, share)),
+        );
+        assert_eq!(out.status.code(), Some(0), "{}", text(&out.stderr));
+        let warning = format!("the lens term is not supported by the picture: cell {cell} is the first outside it ({place}, from 0)");
+        assert!(text(&out.stderr).lines().any(|line| line == format!("flatten: warning: {warning}")), "{}", text(&out.stderr));
+        assert!(folder.text("r").contains(&format!("{{\"outside\": {cell}}}")), "{}", folder.text("r"));
+    }
+}
+
 #[test]
 fn bad_pictures_and_bad_usage_are_status_2() {
     for (args, input, why) in [

@@ -1,15 +1,10 @@
 //! What is drawn into the capture.
 
+mod common;
+use common::past_the_picture;
 use flatten::{overlay, Frame, Grade, Rectified, Workspace};
-use scene::{Card, Cells, Scene, FOUR};
 
 const CROSS: [u8; 3] = [255, 160, 0];
-
-/// A card that reaches past the picture on each side, seen straight.
-fn capture(f: Frame, w: usize, h: usize, share: f64) -> Vec<u8> {
-    let frame = scene::Frame { width: f.width, height: f.height, cell: f.cell, margin: f.margin };
-    Scene::straight(w, h, Card::new(frame, Cells::Mixed(FOUR, 1)), share).take()
-}
 
 /// Columns and rows of the sampled cells with a tap outside the picture, by row, then column.
 fn cells_outside(ws: &Workspace, card: &Rectified) -> Vec<[usize; 2]> {
@@ -41,7 +36,7 @@ fn the_cross_stands_at_the_first_cell_outside() {
     ] {
         let f: Frame = frame.parse().unwrap();
         let mut ws = Workspace::new(w, h, f).unwrap();
-        let mut drawn = capture(f, w, h, share);
+        let mut drawn = past_the_picture(f, w, h, share);
         let card = ws.rectify(&drawn).unwrap();
         let cells = cells_outside(&ws, &card);
         assert_eq!(cells[0], first, "{frame}: {cells:?}");

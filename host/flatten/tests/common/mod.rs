@@ -77,6 +77,12 @@ pub fn card(frame: flatten::Frame) -> Vec<u8> {
     data
 }
 
+/// A photograph of a card that reaches past the picture on each side where `share` is above 1, seen straight.
+pub fn past_the_picture(f: flatten::Frame, w: usize, h: usize, share: f64) -> Vec<u8> {
+    let frame = scene::Frame { width: f.width, height: f.height, cell: f.cell, margin: f.margin };
+    scene::Scene::straight(w, h, scene::Card::new(frame, scene::Cells::Mixed(scene::FOUR, 1)), share).take()
+}
+
 pub fn small() -> Vec<u8> {
     p6(192, 192, &card(FRAME.parse().unwrap()))
 }
