@@ -50,6 +50,17 @@ static void paged(const struct tablet_areas *a)
     for (size_t i = LEN; i < sizeof page; i++) assert(page[i] == 0xa5);
 }
 
+/* The luma plane of the last look has what tablet_luma gives of each pixel's red, green and blue. */
+static void lumas(const struct tablet_areas *a)
+{
+    for (size_t i = 0; i < SIDE * SIDE; i++) {
+        float y = tablet_luma(photo[3 * i], photo[3 * i + 1], photo[3 * i + 2]);
+        assert(memcmp(&a->luma[i], &y, sizeof y) == 0);
+    }
+    assert(tablet_luma(255, 0, 0) == 0.299f * 255.0f && tablet_luma(0, 255, 0) == 0.587f * 255.0f);
+    assert(tablet_luma(0, 0, 255) == 0.114f * 255.0f && tablet_luma(0, 0, 0) == 0.0f);
+}
+
 int main(void)
 {
     uint64_t lengths[TABLET_LENGTHS_LEN];
@@ -64,6 +75,7 @@ int main(void)
     assert(tablet_areas_look(&a, SIDE, SIDE, FRAME) == 0);
     assert(a.counts[TABLET_CANDIDATES] == 4 && a.counts[TABLET_PATCHES] >= 4);
     paged(&a);
+    lumas(&a);
     assert(tablet_areas_fit(&a, SIDE, SIDE, FRAME) == 0);
     assert(tablet_areas_rectify(&b, SIDE, SIDE, FRAME) == 0);
     assert(memcmp(a.fit, b.fit, sizeof a.fit) == 0 && memcmp(a.counts, b.counts, sizeof a.counts) == 0);

@@ -1,7 +1,7 @@
 /* tablet.h: the functions of libtablet.a (crate tablet), for C and C++.
  *
- * Every function returns a refusal number, 0 where it accepts. The lowest number that applies is given, but in one place:
- * tablet_read_book gives 3 after 14 and 15.
+ * Every function returns a refusal number, 0 where it accepts, but for tablet_luma, which refuses nothing and returns the luma.
+ * The lowest number that applies is given, but in one place: tablet_read_book gives 3 after 14 and 15.
  *    1  a frame number outside its limit: sides 1 to 4096, cell 1 to 512, margin 0 to 4096 (the writer of the frame)
  *    2  a capture side outside 1 to 4096, or a capture or mask of another length than its sides say (the host)
  *    3  a work area, a slice of numbers handed in or for results, or the memory for a book is too short (the host)
@@ -224,6 +224,10 @@ uint32_t tablet_undistort(const double *lens, size_t lens_len, double x, double 
 /* The colour of a capture at a position. 2, 3. colour: TABLET_COLOUR_LEN. */
 uint32_t tablet_bilinear(const uint8_t *capture, size_t capture_len, size_t w, size_t h, double x, double y,
                          uint8_t *colour, size_t colour_len);
+
+/* A pixel's luma, of its red, green and blue byte: what luma holds for such a pixel after a look. Never refused: every three bytes
+ * have one. */
+float tablet_luma(uint8_t r, uint8_t g, uint8_t b);
 
 /* Root mean square distance of four points from four others. 3. a, b: TABLET_POINTS_LEN; result: one. */
 uint32_t tablet_rms_error(const double *a, size_t a_len, const double *b, size_t b_len, double *result, size_t result_len);

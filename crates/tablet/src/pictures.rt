@@ -1,4 +1,4 @@
-// Readings, the flat image, and patches.
+// Readings, luma, the flat image, and patches.
 use super::answers::capture_first;
 use super::answers::colour_number;
 use super::answers::colour_value;
@@ -7,7 +7,9 @@ use super::answers::number_of;
 use super::slices::store_bytes;
 use super::slices::store_counts;
 use frame::FrameSpec;
+ghost use mathlib.Core.Path.{_≡_};
 ghost use Rattle.frame.specs.Image.{image};
+ghost use Rattle.sampling.specs.Luma.{lumaOf};
 ghost use Rattle.sampling.specs.Reading.{bilinear};
 ghost use Rattle.blobs.specs.Areas.{patchAreas};
 ghost use Rattle.tablet.specs.Slices.{Answer};
@@ -40,6 +42,14 @@ pub extern "C" fn tablet_bilinear(
     let c = colour_value(a);
     store_bytes(colour, &[c.r, c.g, c.b]);
     0
+}
+
+// A pixel's luma, of its three bytes: there is nothing to refuse.
+#[no_mangle]
+pub extern "C" fn tablet_luma(r: u8, g: u8, b: u8) -> f32
+    ensures { λ y. ⌜ y ≡ lumaOf r g b ⌝ }
+{
+    sampling::luma(r, g, b)
 }
 
 // Lays the canonical image out under a fit of 13 numbers.

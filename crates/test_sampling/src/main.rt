@@ -1,10 +1,12 @@
-// Runs `bilinear` on outside vectors, and prints each colour as six hexadecimal digits. The
-// expected output is the original's: host/vectors/src/bin/sampling.rs says what stdin holds, and
-// how to make both again.
+// Runs `bilinear` and `luma` on outside vectors, and prints each colour as six hexadecimal digits
+// and each luma's pattern as eight. The expected output is the original's:
+// host/vectors/src/bin/sampling.rs says what stdin holds, and how to make both again.
 use sampling::Colour;
 
-// The picture is 5 by 4, in 60 bytes; the places follow from byte 64 on.
+// The picture is 5 by 4, in 60 bytes; the places follow from word 8 on, the pixels from byte 4,864 on.
 const FIRST: usize = 8;
+
+const PIXELS: usize = 4864;
 
 fn main() {
     let mut buf = io::large_buffer();
@@ -13,10 +15,11 @@ fn main() {
 }
 
 fn run(b: &[u8]) {
-    if 60 <= b.len() {
+    if PIXELS <= b.len() {
         examples();
         refusals(&b[..60]);
-        places(&b[..60], b);
+        places(&b[..60], &b[..PIXELS]);
+        lumas(&b[PIXELS..]);
     }
 }
 
@@ -42,6 +45,14 @@ fn places(picture: &[u8], b: &[u8]) {
         let y = vectors::double(vectors::word(b, i + 1));
         print(sampling::bilinear(picture, 5, 4, x, y));
         i += 2;
+    }
+}
+
+fn lumas(b: &[u8]) {
+    for i in 0..b.len() / 3 {
+        let y = sampling::luma(b[3 * i], b[3 * i + 1], b[3 * i + 2]);
+        io::print_hex(1, vectors::bits32(y) as u64, 8);
+        io::write_all(1, b"\n");
     }
 }
 

@@ -10,6 +10,7 @@ use print::all_bytes;
 use print::bytes;
 use print::floats;
 use print::shorts;
+use print::singles;
 use print::word;
 use print::words;
 
@@ -28,6 +29,7 @@ fn main() {
     grid_score(&capture, &moved);
     warp_with(&capture, &fit);
     bilinear(&capture);
+    luma();
     lengths();
     grid();
     marker_numbers();
@@ -87,6 +89,10 @@ fn bilinear(capture: &[u8; 43008]) {
     let mut colour = [0u8; 8];
     word(tablet::tablet_bilinear(capture, 128, 112, 40.25, 71.5, &mut colour) as u64);
     bytes(&colour, 1);
+}
+
+fn luma() {
+    singles(&[tablet::tablet_luma(200, 31, 7)], 0, 1);
 }
 
 // ---- frames

@@ -1,8 +1,9 @@
 //! Functions of numbers, compared one call at a time; the candidate page and the book of fits with definitions of their own
-//! (`pages`, `books`). A call is its name and 64-bit words, so that a file can hold it.
+//! (`pages`, `books`). A call is its name and 64-bit words, so that a file can hold it; `luma` has no words, and is compared on
+//! every three bytes at once.
 
 use crate::original as o;
-use crate::{bits, books, pages, sampled};
+use crate::{bits, books, luma, pages, sampled};
 use flatten::{ffi, Frame};
 use lpcore::geometry as g;
 use lpcore::image::RgbImage;
@@ -288,6 +289,7 @@ pub fn check(name: &str, w: &[u64]) -> Result<(), String> {
             numbered(ffi::bilinear(&img.data, img.w, img.h, x[3], x[4], &mut c), 0)?;
             same("channel", &c.map(f64::from), &g::bilinear(&img, x[3], x[4]).map(f64::from))
         }
+        "luma" => luma::check(),
         "grid_score" => grid_score(w, &x),
         "warp_with" => {
             let (img, f) = (picture(w[0], w[1], w[2]), frame(&w[3..]));

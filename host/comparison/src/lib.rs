@@ -5,6 +5,7 @@ pub mod clock;
 pub mod damage;
 pub mod direct;
 pub mod kinds;
+pub mod luma;
 pub mod original;
 pub mod pages;
 

@@ -96,9 +96,13 @@ fn integral(luma: &[f32], w: usize, h: usize) -> Vec<f64> {
     integral
 }
 
+pub fn luma_plane(w: usize, h: usize, data: &[u8]) -> Vec<f32> {
+    inner::luma_plane(&lpcorepub::image::RgbImage { w, h, data: data.to_vec() })
+}
+
 fn look(case: &Case, img: &RgbImage, marker: f64) -> Look {
     let (w, h) = (case.w, case.h);
-    let luma = inner::luma_plane(&lpcorepub::image::RgbImage { w, h, data: case.data.clone() });
+    let luma = luma_plane(w, h, &case.data);
     let radius = (marker as usize / 3).clamp(8, w.min(h) / 4);
     let mask = inner::adaptive_black_mask(&luma, w, h, radius, 8.0);
     let blobs = inner::label_blobs(&mask, w, h);

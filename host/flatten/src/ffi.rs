@@ -3,7 +3,7 @@
 //! This is the only module with `unsafe`. The calls are sound for slices of any length and content: the library is proved to
 //! read and write only inside what it is handed and to keep nothing, and Rust's borrows keep the slices apart. So each
 //! `SAFETY` has to say only that a pointer goes with its own slice's length. Each function returns the refusal number, 0
-//! where it accepts.
+//! where it accepts, but for `luma`, which refuses nothing and returns the luma.
 
 use crate::Frame;
 
@@ -141,6 +141,7 @@ mod c {
             capture: *const u8, capture_len: usize, w: usize, h: usize, x: f64, y: f64,
             colour: *mut u8, colour_len: usize,
         ) -> u32;
+        pub fn tablet_luma(r: u8, g: u8, b: u8) -> f32;
         pub fn tablet_rms_error(
             a: *const f64, a_len: usize, b: *const f64, b_len: usize, result: *mut f64, result_len: usize,
         ) -> u32;
@@ -349,6 +350,12 @@ pub fn undistort(lens: &[f64], x: f64, y: f64, point: &mut [f64]) -> u32 {
 pub fn bilinear(capture: &[u8], w: usize, h: usize, x: f64, y: f64, colour: &mut [u8]) -> u32 {
     // SAFETY: both slices go with their own lengths, and the colour is borrowed apart from the capture.
     unsafe { c::tablet_bilinear(capture.as_ptr(), capture.len(), w, h, x, y, colour.as_mut_ptr(), colour.len()) }
+}
+
+/// A pixel's luma, as the luma plane of a look has it.
+pub fn luma(r: u8, g: u8, b: u8) -> f32 {
+    // SAFETY: three bytes and no pointer.
+    unsafe { c::tablet_luma(r, g, b) }
 }
 
 pub fn rms_error(a: &[f64], b: &[f64], result: &mut [f64]) -> u32 {

@@ -246,6 +246,7 @@ fn an_exchange_in_any_of_the_three_is_seen() {
         ("fn tablet_from_points(", "source: &[f64], target: &[f64]", "target: &[f64], source: &[f64]"),
         ("fn tablet_rms_error(", "fn tablet_rms_error", "fn tablet_error"),
         ("fn tablet_apply(", "matrix: &[f64]", "matrix: &mut [f64]"),
+        ("fn tablet_luma(", "r: u8, g: u8", "g: u8, r: u8"),
         ("fn tablet_candidate_page(", "page: &mut [u8]", "page: &[u8]"),
         ("fn tablet_read_book(", "heads: &mut [u32]", "heads: &mut [u64]"),
     ] {
@@ -256,6 +257,7 @@ fn an_exchange_in_any_of_the_three_is_seen() {
         ("tablet_undistort(", "double x, double y", "double y, double x"),
         ("tablet_lengths(", "uint64_t *lengths", "uint32_t *lengths"),
         ("uint32_t tablet_rms_error(", "tablet_rms_error", "tablet_error"),
+        ("float tablet_luma(", "float", "double"),
         ("tablet_candidate_page(", "size_t candidates_len, size_t count", "size_t count, size_t candidates_len"),
         ("tablet_write_book(", "const uint32_t *heads", "uint32_t *heads"),
     ] {
@@ -266,6 +268,7 @@ fn an_exchange_in_any_of_the_three_is_seen() {
         ("tablet_fit_geometry(means", "counts: *mut u64", "counts: *mut u32"),
         ("pub fn tablet_mat3_mul(", "a: *const f64, a_len", "b: *const f64, a_len"),
         ("c::tablet_grid(", "f.width, f.height", "f.height, f.width"),
+        ("c::tablet_luma(", "r, g, b", "b, g, r"),
         ("c::tablet_warp_with(", "canonical.as_mut_ptr(), canonical.len()", "canonical.as_mut_ptr(), fit.len()"),
         ("c::tablet_candidate_page(", "candidates.len(), count", "count, candidates.len()"),
         ("c::tablet_write_book(", "numbers.len(), count", "count, numbers.len()"),

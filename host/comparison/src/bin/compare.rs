@@ -1,9 +1,9 @@
 //! compare SEED COUNT [PART]: COUNT captures, 500·COUNT point sets and 50·COUNT damaged calls on the library and on the original;
-//! or one PART of these: captures, points or damage.
+//! or one PART of these: captures, points or damage. With the points comes the luma of every three bytes.
 //! compare replay FILE: once more what a file of an earlier difference holds.
 //! Exit status 0 without a difference, 1 with one, 2 bad usage.
 
-use comparison::{captures, damage, direct, kinds, Case};
+use comparison::{captures, damage, direct, kinds, luma, Case};
 use scene::Random;
 use std::collections::BTreeMap;
 use std::fs;
@@ -71,20 +71,24 @@ fn call_text(name: &str, words: &[u64]) -> String {
     format!("{name} {}\n", words.join(" "))
 }
 
+fn one_call(name: &str, words: &[u64]) {
+    if let Err(e) = direct::check(name, words) {
+        differ(format!("{name}: {e}"), "difference.txt", call_text(name, words).as_bytes());
+    }
+}
+
 fn run_direct(seed: u64, count: usize) {
     println!("| function | calls compared |\n|---|---|");
     for (name, share, make) in direct::FUNCTIONS {
         let mut r = Random::new(scene::mix(seed ^ name.bytes().fold(0, |s, b| s * 31 + b as u64)));
         let calls = (count * share / 1000).max(1);
         for _ in 0..calls {
-            let words = make(&mut r);
-            if let Err(e) = direct::check(name, &words) {
-                differ(format!("{name}: {e}"), "difference.txt", call_text(name, &words).as_bytes());
-            }
+            one_call(name, &make(&mut r));
         }
         println!("| {name} | {calls} |");
     }
-    println!();
+    one_call("luma", &[]);
+    println!("| luma | {} |\n", luma::TRIPLES);
 }
 
 fn run_damage(seed: u64, count: usize) {

@@ -1,11 +1,13 @@
-// Vectors for the program crate test_sampling: places in a small picture, and the original's `bilinear` there.
+// Vectors for the program crate test_sampling: places in a small picture, and the original's `bilinear` there; pixels, and
+// their luma in the original's `luma_plane`.
 // In host/vectors: `cargo run --release --offline --bin sampling` writes crates/test_sampling/stdin and stdout again.
 //
-// stdin is the 60 bytes of a picture of 5 by 4, four bytes of padding, and then the places, two 64-bit words each, lowest
-// byte first: the patterns of x and y. stdout begins with what the program asks by itself: requirement 15.3, 0 and
-// 255 side by side at (1.0, 0.5), and four captures that are refused by 2. Then a line for each place.
-use lpcore::geometry::bilinear;
-use lpcore::image::RgbImage;
+// stdin is the 60 bytes of a picture of 5 by 4, four bytes of padding, then 300 places, two 64-bit words each, lowest
+// byte first: the patterns of x and y; and then pixels, three bytes each. stdout begins with what the program asks by
+// itself: requirement 15.3, 0 and 255 side by side at (1.0, 0.5), and four captures that are refused by 2. Then a line for
+// each place, and one for each pixel, the eight hexadecimal digits of its luma's pattern.
+use lpcorepub::geometry::{bilinear, luma_plane};
+use lpcorepub::image::RgbImage;
 use vectors::Random;
 
 const W: usize = 5;
@@ -79,6 +81,16 @@ fn places(random: &mut Random) -> Vec<(f64, f64)> {
     list
 }
 
+/// The least, the middle and the greatest bytes in each place, and 200 pixels at random.
+fn pixels(random: &mut Random) -> Vec<[u8; 3]> {
+    let bytes = [0, 1, 127, 128, 254, 255];
+    let each = |r: u8| bytes.into_iter().flat_map(move |g| bytes.map(|b| [r, g, b]));
+    let mut list: Vec<[u8; 3]> = bytes.into_iter().flat_map(each).collect();
+    list.extend((0..200).map(|_| [0; 3].map(|_: u8| (random.next() >> 56) as u8)));
+    assert_eq!(list.len(), 416);
+    list
+}
+
 fn main() {
     let mut random = Random(4);
     let mut img = RgbImage::new(W, H);
@@ -99,6 +111,11 @@ fn main() {
         input.extend(y.to_bits().to_le_bytes());
         output += &line(bilinear(&img, x, y));
     }
+    let pixels = pixels(&mut random).concat();
+    for y in luma_plane(&RgbImage { w: pixels.len() / 3, h: 1, data: pixels.clone() }) {
+        output += &format!("{:08x}\n", y.to_bits());
+    }
+    input.extend(pixels);
     vectors::write("test_sampling", &input, &output);
     println!("{} lines", output.lines().count());
 }

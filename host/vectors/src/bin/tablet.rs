@@ -3,10 +3,11 @@
 // stdout again.
 //
 // stdin is the capture's bytes. stdout has the answers' words, one a line, in hexadecimal: each call's refusal number, and
-// then what it wrote. Of the areas some entries are printed, of bytes every sixteenth word of eight, of the candidate page
-// and of the book of fits all. The number of waiting pixels is not the original's, and left out. The smallest lengths are
-// those of docs/REQUIREMENTS.md, 3.1. The original has no candidate page: its text is made here, from the original's
-// candidates. Nor has it a book of fits: its bytes are made here by to_le_bytes.
+// then what it wrote; of luma, which is never refused, the pattern. Of the areas some entries are printed, of bytes every
+// sixteenth word of eight, of the candidate page and of the book of fits all. The number of waiting pixels is not the
+// original's, and left out. The smallest lengths are those of docs/REQUIREMENTS.md, 3.1. The original has no candidate
+// page: its text is made here, from the original's candidates. Nor has it a book of fits: its bytes are made here by
+// to_le_bytes.
 use lpcorepub::frame::FrameSpec;
 use lpcorepub::geometry::{
     adaptive_black_mask, bilinear, detect_fiducials, fiducial_candidates, fit_for, fit_geometry, grid_score, label_blobs, luma_plane,
@@ -234,6 +235,7 @@ fn fits(v: &mut Vectors, img: &RgbImage, f: &FrameSpec, points: &Points) -> Geom
     v.word(0);
     let [r, g, b] = bilinear(img, 40.25, 71.5).map(u64::from);
     v.word(r + (g << 8) + (b << 16));
+    v.word(luma_plane(&RgbImage { w: 1, h: 1, data: vec![200, 31, 7] })[0].to_bits() as u64);
     fit
 }
 
