@@ -12,7 +12,7 @@ lumaOf r g b =
     add binary32 (add binary32 (mul binary32 (d32 299 1000) (f32 r)) (mul binary32 (d32 587 1000) (f32 g)))
     (mul binary32 (d32 114 1000) (f32 b))
 
--- [20.3] the plane holds the luma of each pixel's bytes: pixel i's, and all
+-- [20.3] the plane holds what `luma` gives of each pixel's three bytes: pixel i's entry, and all
 abbrev pub lumaAt : Image → ℕ → Float
 lumaAt img i = lumaOf (byteAt img (3 * i)) (byteAt img (3 * i + 1)) (byteAt img (3 * i + 2))
 

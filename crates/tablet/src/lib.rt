@@ -2,10 +2,11 @@
 // (host/include/tablet.h).
 //
 // A function's own result is the refusal number (requirements, 2), 0 where it accepts, but for
-// `tablet_luma`, which refuses nothing and gives the luma. The number is the lowest that applies, but
-// for `tablet_read_book`, which gives 3 after 14 and 15. Numbers are handed in and answered in lent
-// slices, which may be longer than they need be; a shorter one is refusal 3. What lies past the
-// numbers of a slice is never written, and a refusal by 1 to 6 or 12 to 15 writes nothing at all.
+// `tablet_luma`, which refuses nothing and gives the luma. The number is the lowest that applies,
+// but for `tablet_read_book`, which gives 3 after 14 and 15. Numbers are handed in and answered in
+// lent slices, which may be longer than they need be; a shorter one is refusal 3. What lies past
+// the numbers of a slice is never written, and a refusal by 1 to 6 or 12 to 15 writes nothing at
+// all.
 mod answers;
 mod books;
 mod fits;

@@ -3,9 +3,10 @@
 // host/vectors/src/bin/sampling.rs says what stdin holds, and how to make both again.
 use sampling::Colour;
 
-// The picture is 5 by 4, in 60 bytes; the places follow from word 8 on, the pixels from byte 4,864 on.
+// The picture is 5 by 4, in 60 bytes; the places follow from this word on,
 const FIRST: usize = 8;
 
+// and the pixels from this byte on.
 const PIXELS: usize = 4864;
 
 fn main() {
