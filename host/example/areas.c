@@ -67,7 +67,10 @@ int main(void)
     struct tablet_areas a, b;
     assert(tablet_lengths(SIDE, SIDE, FRAME, lengths, TABLET_LENGTHS_LEN) == 0);
     memset(photo, 255, sizeof photo);
-    for (size_t i = 0; i < SIDE * SIDE; i++) memset(photo + 3 * i, (i % SIDE / 8 + i / SIDE / 8) % 2 ? 90 : 160, 3);
+    for (size_t i = 0; i < SIDE * SIDE; i++) {
+        uint8_t light = (i % SIDE / 8 + i / SIDE / 8) % 2 ? 90 : 160;
+        photo[3 * i] = light, photo[3 * i + 1] = light + 15, photo[3 * i + 2] = light - 25;
+    }
     assert(tablet_stamp_fiducials(photo, sizeof photo, SIDE, SIDE, FRAME) == 0);
     assert(tablet_areas_lend(&a, lengths, NULL) == 0);
 

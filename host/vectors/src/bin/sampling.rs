@@ -6,8 +6,8 @@
 // byte first: the patterns of x and y; and then pixels, three bytes each. stdout begins with what the program asks by
 // itself: requirement 15.3, 0 and 255 side by side at (1.0, 0.5), and four captures that are refused by 2. Then a line for
 // each place, and one for each pixel, the eight hexadecimal digits of its luma's pattern.
-use lpcorepub::geometry::{bilinear, luma_plane};
-use lpcorepub::image::RgbImage;
+use lpcore::geometry::bilinear;
+use lpcore::image::RgbImage;
 use vectors::Random;
 
 const W: usize = 5;
@@ -111,11 +111,12 @@ fn main() {
         input.extend(y.to_bits().to_le_bytes());
         output += &line(bilinear(&img, x, y));
     }
-    let pixels = pixels(&mut random).concat();
-    for y in luma_plane(&RgbImage { w: pixels.len() / 3, h: 1, data: pixels.clone() }) {
+    let pixels = pixels(&mut random);
+    let row = lpcorepub::image::RgbImage { w: pixels.len(), h: 1, data: pixels.concat() };
+    for y in lpcorepub::geometry::luma_plane(&row) {
         output += &format!("{:08x}\n", y.to_bits());
     }
-    input.extend(pixels);
+    input.extend(row.data);
     vectors::write("test_sampling", &input, &output);
     println!("{} lines", output.lines().count());
 }
