@@ -1,4 +1,4 @@
-/* Fits are kept in a book and read again, bit by bit. Run by host/test. */
+/* Fits are kept in a book and read again, bit by bit, and cards are laid under them. Run by host/test. */
 #include <assert.h>
 #include <stdio.h>
 #include <string.h>
@@ -54,10 +54,35 @@ static void refused(void)
     assert(book[0] == GUARD && book[LEN - 1] == 0);
 }
 
+/* A card under a kept fit is tablet_warp_with's; under one that was not scored there is none, after all that is wrong otherwise. */
+static void laid(void)
+{
+    enum { W = 8, H = 6, SIDE = 5, CARD = 3 * SIDE * SIDE };
+    uint8_t capture[3 * W * H], card[CARD], kept[CARD];
+    double fit[TABLET_FIT_LEN];
+    for (size_t i = 0; i < sizeof capture; i++) capture[i] = (uint8_t)(i * i + 7 * i);
+    memcpy(fit, numbers, sizeof fit);
+    memset(kept, GUARD, CARD);
+    assert(tablet_warp_with(capture, sizeof capture, W, H, SIDE, SIDE, 1, 0, fit, TABLET_FIT_LEN, card, CARD) == 0);
+    assert(tablet_warp_record(capture, sizeof capture, W, H, SIDE, SIDE, 1, 0, TABLET_SCORED, numbers, NUMBERS, kept, CARD) == 0);
+    assert(memcmp(card, kept, CARD) == 0);
+
+    memset(kept, GUARD, CARD);
+    for (uint32_t grade = TABLET_OUTSIDE; grade < 5; grade++) {
+        assert(tablet_warp_record(capture, sizeof capture, W, H, SIDE, SIDE, 1, 0, grade, numbers, NUMBERS, kept, CARD) == 16);
+        assert(tablet_warp_record(capture, sizeof capture, W, H, SIDE, 0, 1, 0, grade, numbers, 12, kept, 0) == 1);
+        assert(tablet_warp_record(capture, 1, W, H, SIDE, SIDE, 1, 0, grade, numbers, 12, kept, 0) == 2);
+        assert(tablet_warp_record(capture, sizeof capture, W, H, SIDE, SIDE, 1, 0, grade, numbers, 12, kept, 0) == 3);
+        assert(tablet_warp_record(capture, sizeof capture, W, H, SIDE, SIDE, 1, 0, grade, numbers, NUMBERS, kept, 0) == 4);
+    }
+    for (size_t i = 0; i < CARD; i++) assert(kept[i] == GUARD);
+}
+
 int main(void)
 {
     fill();
     written_and_read();
     refused();
+    laid();
     return puts("books agree") < 0;
 }

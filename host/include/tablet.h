@@ -21,6 +21,8 @@
  *       length would be above 4,294,967,295 (whoever hands in the book)
  *   15  tablet_read_book and tablet_write_book only: the book's keys, panel and then camera, do not rise strictly (whoever
  *       hands in the book)
+ *   16  tablet_rectify and tablet_warp_record only: the kept fit has no score, since fewer than 16 cells are sampled or one lies
+ *       outside the picture; a record's grade is not TABLET_SCORED (the photographer)
  *
  * A slice is a pointer and then its number of entries (not bytes). A pointer must not be NULL, with 0 entries too, and must
  * be aligned for its type. No two slices of a call may overlap, unless both are const. Nothing is kept after a call.
@@ -32,7 +34,7 @@
  * its slices by the names below.
  *
  * Work areas may be longer than needed; what lies past the lengths that tablet_lengths gives is never written. Their contents
- * before a call change no answer. After acceptance, and after a refusal by 7 to 10, they hold
+ * before a call change no answer. After acceptance, and after a refusal by 7 to 10 or by tablet_rectify's 16, they hold
  *    luma        the capture's luma, w * h
  *    integral    its integral image, (w + 1) * (h + 1)
  *    mask        1 where dark, else 0, w * h
@@ -40,8 +42,8 @@
  *    patches     seven numbers a patch, in raster order of the first pixels: area, sum of x, sum of y, x0, y0, x1, y1
  *    candidates  four numbers a candidate, in patch order: centre x, centre y, score, size
  *    blob_index  for each candidate its patch's place in patches, from 0
- * and waiting and means hold nothing of use: they are free. Records past the last are as they were. After a refusal by 1 to 6
- * or 11 to 15 no memory is changed, and after any refusal the canonical image is as it was.
+ * and waiting and means hold nothing of use: they are free. Records past the last are as they were. After a refusal by 1 to 6,
+ * by 11 to 15 or by tablet_warp_record's 16 no memory is changed, and after any refusal the canonical image is as it was.
  *
  * Acceptance says that the answer is the one that the rules give for this capture. It does not say that the four rings are the
  * card's, nor which way up the card lies: README.md, "When not to trust a card". host/flatten/src/phase.rs has a sign of both
@@ -86,7 +88,8 @@ enum {
 };
 
 /* Entries of the counts. tablet_fiducial_candidates fills the first three, tablet_detect_fiducials the first seven. They are
- * filled on acceptance and on a refusal by 7 to 10; then what there is not to tell is 0, and the grade TABLET_NO_GRADE. */
+ * filled on acceptance and on a refusal by 7 to 10 or 16. After 7 to 10 what there is not to tell is 0, and the grade
+ * TABLET_NO_GRADE; after 16 the places are 0, and the grade is TABLET_OUTSIDE or TABLET_TOO_FEW. */
 enum {
     TABLET_PATCHES = 0,
     TABLET_CANDIDATES = 1,
@@ -105,7 +108,8 @@ enum {
 /* Grades. */
 enum { TABLET_SCORED = 0, TABLET_OUTSIDE = 1, TABLET_TOO_FEW = 2, TABLET_NO_GRADE = 3 };
 
-/* Entries of a found fit, filled on acceptance only: the matrix by rows, the lens, the score (-infinity where unscored). */
+/* Entries of a found fit, filled on acceptance only: the matrix by rows, the lens, the score (-infinity where unscored, which a
+ * fit of tablet_rectify never is). */
 enum { TABLET_MATRIX = 0, TABLET_K = 9, TABLET_CX = 10, TABLET_CY = 11, TABLET_NORM = 12, TABLET_SCORE = 13 };
 
 /* Entries of tablet_lengths: the smallest number of entries of each slice (exact for capture and canonical). */
@@ -127,7 +131,7 @@ enum {
 uint32_t tablet_lengths(size_t w, size_t h, size_t width, size_t height, size_t cell, size_t margin,
                         uint64_t *lengths, size_t lengths_len);
 
-/* The flat card of a capture. 1 to 10. counts: TABLET_COUNTS_LEN; fit: TABLET_SCORED_FIT_LEN. */
+/* The flat card of a capture. 1 to 10, 16. counts: TABLET_COUNTS_LEN; fit: TABLET_SCORED_FIT_LEN. */
 uint32_t tablet_rectify(const uint8_t *capture, size_t capture_len, size_t w, size_t h,
                         size_t width, size_t height, size_t cell, size_t margin,
                         float *luma, size_t luma_len, double *integral, size_t integral_len,
@@ -137,7 +141,7 @@ uint32_t tablet_rectify(const uint8_t *capture, size_t capture_len, size_t w, si
                         double *means, size_t means_len, uint8_t *canonical, size_t canonical_len,
                         uint64_t *counts, size_t counts_len, double *fit, size_t fit_len);
 
-/* The fit alone. 1, 2, 3, 5 to 10. counts: TABLET_COUNTS_LEN; fit: TABLET_SCORED_FIT_LEN. */
+/* The fit alone, unscored ones too. 1, 2, 3, 5 to 10. counts: TABLET_COUNTS_LEN; fit: TABLET_SCORED_FIT_LEN. */
 uint32_t tablet_fit_geometry(const uint8_t *capture, size_t capture_len, size_t w, size_t h,
                              size_t width, size_t height, size_t cell, size_t margin,
                              float *luma, size_t luma_len, double *integral, size_t integral_len,
@@ -187,6 +191,13 @@ uint32_t tablet_grid_score(const uint8_t *capture, size_t capture_len, size_t w,
 uint32_t tablet_warp_with(const uint8_t *capture, size_t capture_len, size_t w, size_t h,
                           size_t width, size_t height, size_t cell, size_t margin,
                           const double *fit, size_t fit_len, uint8_t *canonical, size_t canonical_len);
+
+/* The card under the fit of a book's record, by its grade (any but TABLET_SCORED gives 16) and the bit patterns of the fit's f64, as
+ * tablet_read_book leaves them. 1, 2, 3 (numbers), 4, 16. numbers: TABLET_FIT_LEN. */
+uint32_t tablet_warp_record(const uint8_t *capture, size_t capture_len, size_t w, size_t h,
+                            size_t width, size_t height, size_t cell, size_t margin,
+                            uint32_t grade, const uint64_t *numbers, size_t numbers_len,
+                            uint8_t *canonical, size_t canonical_len);
 
 /* Draws the four markers into an image of w by h, clipped to it. 1, 2, 5. */
 uint32_t tablet_stamp_fiducials(uint8_t *image, size_t image_len, size_t w, size_t h,
@@ -357,7 +368,7 @@ static inline uint32_t tablet_areas_look(struct tablet_areas *a, size_t w, size_
                                       a->counts, TABLET_LISTED_LEN);
 }
 
-/* tablet_candidate_page: all candidates of the last of these calls, which was accepted or refused by 7 to 10. */
+/* tablet_candidate_page: all candidates of the last of these calls, which was accepted or refused by 7 to 10 or 16. */
 static inline uint32_t tablet_areas_page(const struct tablet_areas *a, uint8_t *page, size_t page_len)
 {
     return tablet_candidate_page(a->candidates, a->candidates_len, (size_t)a->counts[TABLET_CANDIDATES], page, page_len);

@@ -57,12 +57,12 @@ lowest-as C D to from n (accepted e g) = accepted e (λ k d. g k (from k d))
 lowest-as C D to from n (refused c g) = refused (to n c) (λ k l d. g k l (from k d))
 
 module _ (img : Image) (f : FrameSpec) where
-  positive : (t : List Check) → Rising 0 t → (n : ℕ) → Unfitted img f t n → 1 ≤ n
+  pub positive : (t : List Check) → Rising 0 t → (n : ℕ) → Unfitted img f t n → 1 ≤ n
   positive t r n (undetected u) = undetected-positive img f t r n u
   positive t r n (barren e q m b) = omega arith
 
   -- what the picture shows has a number from 7 on, whatever is tested
-  shown : (t : List Check) → ((j : ℕ) → Tested j t → ⊥) → (n : ℕ) → Unfitted img f t n → 7 ≤ n
+  pub shown : (t : List Check) → ((j : ℕ) → Tested j t → ⊥) → (n : ℕ) → Unfitted img f t n → 7 ≤ n
   shown t none n (undetected (tested x)) = absurd (none n x)
   shown t none n (undetected (few e x)) = omega arith
   shown t none n (undetected (shared e x)) = omega arith
@@ -101,7 +101,7 @@ module _ (img : Image) (f : FrameSpec) where
     from-seven z h = shown t (none-tested t (g .rises) z) n (lowest-holds (Unfitted img f t) (positive t (g .rises)) n l h)
 
   -- the tests that two calls make do not tell them apart
-  same-lowest : {a a′ : Areas} (t t′ : List Check) → Guarding img f a t → Guarding img f a′ t′ → SameTests t t′ → (n n′ : ℕ)
+  pub same-lowest : {a a′ : Areas} (t t′ : List Check) → Guarding img f a t → Guarding img f a′ t′ → SameTests t t′ → (n n′ : ℕ)
       → Lowest (Unfitted img f t) n → Lowest (Unfitted img f t′) n′ → n ≡ n′
   same-lowest t t′ g g′ e n n′ l l′ = go (lowestOf t) refl
     where
@@ -112,19 +112,38 @@ module _ (img : Image) (f : FrameSpec) where
           lowest-unique (Unfitted img f t) (positive t (g .rises)) n n′ l (lowest-as (Unfitted img f t′) (Unfitted img f t) from to n′ l′)
       go (suc k) z = by-test t g n l (omega (arith, z)) ∙ e ∙ sym (by-test t′ g′ n′ l′ (omega (arith, e, z)))
 
+-- ---- two answers
+
+-- how many patches and candidates there are, and the most pixels that waited
+abbrev pub Counts : PictureFit → PictureFit → Type 0
+Counts r r′ = (r .patches ≡ r′ .patches) × (r .candidates ≡ r′ .candidates) × (r .waited ≡ r′ .waited)
+
+pub counts : (img : Image) (f : FrameSpec) {a a′ b b′ : Areas} (r r′ : PictureFit) → Looked img f a b (r .patches) (r .candidates) (r .waited)
+    → Looked img f a′ b′ (r′ .patches) (r′ .candidates) (r′ .waited) → Counts r r′
+counts img f r r′ l l′ =
+    (look.same-patches img f _ _ _ _ _ _ _ _ _ _ l l′, look.same-candidates img f _ _ _ _ _ _ _ _ _ _ l l′, look.same-waited img f _ _ _ _ _ _ _ _ _ _ l l′)
+
+-- an answer is its parts
+pub same-answer : (r r′ : PictureFit) → r .verdict ≡ r′ .verdict → stageOf r ≡ stageOf r′ → r .places ≡ r′ .places → Counts r r′ → r ≡ r′
+same-answer r r′ v s p n =
+    λ i. record {
+      verdict = v i;
+      fit = s i .fit;
+      kept = s i .kept;
+      tried = s i .tried;
+      homographies = s i .homographies;
+      places = p i;
+      patches = n .0 i;
+      candidates = n .1 i;
+      waited = n .2 i;
+    }
+
 -- ---- two calls, with tests of their own
 
 module _ (img : Image) (f : FrameSpec) {t t′ : List Check} {a a′ b b′ : Areas} {m m′ o o′ : List Float} {r r′ : PictureFit} (g : Guarding img f a t) (g′ : Guarding img f a′ t′)
     (h : FittingAfter img f t a b m o r) (h′ : FittingAfter img f t′ a′ b′ m′ o′ r′) (e : SameTests t t′) where
   pub same-number : h .number ≡ h′ .number
   same-number = same-lowest img f t t′ g g′ e (h .number) (h′ .number) (h .refusal) (h′ .refusal)
-
-  abbrev Counts : Type 0
-  Counts = (r .patches ≡ r′ .patches) × (r .candidates ≡ r′ .candidates) × (r .waited ≡ r′ .waited)
-
-  counts : Looked img f a b (r .patches) (r .candidates) (r .waited) → Looked img f a′ b′ (r′ .patches) (r′ .candidates) (r′ .waited) → Counts
-  counts l l′ =
-      (look.same-patches img f _ _ _ _ _ _ _ _ _ _ l l′, look.same-candidates img f _ _ _ _ _ _ _ _ _ _ l l′, look.same-waited img f _ _ _ _ _ _ _ _ _ _ l l′)
 
   module _ (yes : h .number ≡ 0) where
     abbrev yes′ : h′ .number ≡ 0
@@ -155,8 +174,8 @@ module _ (img : Image) (f : FrameSpec) {t t′ : List Check} {a a′ b b′ : Ar
       go false y = ten (ltb-false (h .number) 10 y)
 
   -- the parts of the answer, whatever the number
-  parts : Kind (h .number) → (stageOf r ≡ stageOf r′) × (r .places ≡ r′ .places) × Counts
-  parts (fine z) = (stage-agrees z, places-agree z, counts (h .accepted z) (h′ .accepted (sym same-number ∙ z)))
+  parts : Kind (h .number) → (stageOf r ≡ stageOf r′) × (r .places ≡ r′ .places) × Counts r r′
+  parts (fine z) = (stage-agrees z, places-agree z, counts img f r r′ (h .accepted z) (h′ .accepted (sym same-number ∙ z)))
   parts (low x y) =
       let u = h .untouched x y in
       let x′ : 1 ≤ h′ .number = omega (arith, same-number) in
@@ -164,23 +183,10 @@ module _ (img : Image) (f : FrameSpec) {t t′ : List Check} {a a′ b b′ : Ar
       let u′ = h′ .untouched x′ y′ in
       (h .untried x (omega arith) ∙ sym (h′ .untried x′ (omega arith)), h .nowhere x ∙ sym (h′ .nowhere x′), (u .2 ∙ sym (u′ .2), u .3 ∙ sym (u′ .3), u .4 ∙ sym (u′ .4)))
   parts (high z) =
-      (tried-agree z, h .nowhere (omega arith) ∙ sym (h′ .nowhere (omega (arith, same-number))), counts (h .refused z) (h′ .refused (subst (λ k. 7 ≤ k) same-number z)))
+      (tried-agree z, h .nowhere (omega arith) ∙ sym (h′ .nowhere (omega (arith, same-number))), counts img f r r′ (h .refused z) (h′ .refused (subst (λ k. 7 ≤ k) same-number z)))
 
   answers-agree : r ≡ r′
-  answers-agree =
-      let p = parts (kind (h .number)) in
-      let v = h .given ∙ ap verdictOf same-number ∙ sym (h′ .given) in
-      λ i. record {
-        verdict = v i;
-        fit = p .0 i .fit;
-        kept = p .0 i .kept;
-        tried = p .0 i .tried;
-        homographies = p .0 i .homographies;
-        places = p .1 i;
-        patches = p .2 .0 i;
-        candidates = p .2 .1 i;
-        waited = p .2 .2 i;
-      }
+  answers-agree = let p = parts (kind (h .number)) in same-answer r r′ (h .given ∙ ap verdictOf same-number ∙ sym (h′ .given)) (p .0) (p .1) (p .2)
 
   looks-agree : lowestOf t ≡ 0 → Kind (h .number) → SameLook img b b′ (r .patches) (r .candidates)
   looks-agree z (fine x) =

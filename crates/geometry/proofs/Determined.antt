@@ -1,25 +1,27 @@
 -- A rectification's answer, its canonical image and its planes, marks and records are decided by the capture and the frame, where the same tests hold.
 -- Assumes nothing.
 use mathlib.Core.Path.{_≡_, refl, sym, ap, subst, _∙_}
+use mathlib.Core.Bool.{Bool, true, false}
 use native.Mathlib.Omega.{arith}
-use Rattle.base.proofs.Table.{filled-whole}
-use Rattle.frame.specs.Image.{Image, byteOf}
-use Rattle.frame.specs.Refusals.{numberOf, lowestOf}
+use borrow.Author.Tests.{eqb-true, eqb-false}
+use lib.Dec.{eqb}
+use Rattle.frame.specs.Image.{Image}
+use Rattle.frame.specs.Refusals.{numberOf, verdictOf, lowestOf}
 use Rattle.frame.specs.declared.FrameSpec.{FrameSpec}
 use Rattle.frame.specs.declared.Verdict.the-variants.{Accepted}
 use Rattle.frame.proofs.Given.{verdict-number}
+use Rattle.candidates.proofs.Determined as look
 use Rattle.candidates.proofs.Refusing.{rising, upto-six}
 use Rattle.fit.specs.Contracts.{MeansKept}
-use Rattle.fit.specs.declared.GeometryFit.{GeometryFit}
 use Rattle.fit_geometry.specs.Agreement.{SameTests, SameFit}
-use Rattle.fit_geometry.specs.Contracts.{FittingAfter}
+use Rattle.fit_geometry.specs.Contracts.{stageOf, FittingAfter}
 use Rattle.fit_geometry.specs.declared.PictureFit.{PictureFit}
-use Rattle.fit_geometry.proofs.Determined.{Kind, fine, low, high, kind, Guarding, none-where, same-fit}
-use Rattle.geometry.specs.Warp.{reading, warped}
-use Rattle.geometry.specs.Contracts.{canonicalLength}
-use Rattle.geometry.specs.Rectification.{Lent, rectifyTests, Rectification}
+use Rattle.fit_geometry.proofs.Determined.{Kind, fine, low, high, kind, Guarding, counts, none-where, same-answer, same-fit}
+use Rattle.geometry.specs.Warp.{warped}
+use Rattle.geometry.specs.Rectification.{Lent, rectifyTests, Seen, Rectification}
 use Rattle.geometry.specs.Agreement.{Agreement}
-use Rattle.geometry.proofs.Rectifying.{passed}
+use Rattle.geometry.proofs.Rectifying.{passed, warped-same}
+use Rattle.geometry.proofs.Unscored.{as-fit, unscored-card, same-unrectified}
 
 guarding : (img : Image) (f : FrameSpec) (a : Lent) → Guarding img f (a .areas) (rectifyTests img f a)
 guarding img f a =
@@ -29,13 +31,14 @@ guarding img f a =
       ready = λ z. passed img f a z .ready;
     }
 
--- a rectification fits the geometry as `fit_geometry` does, after its own tests
-pub fitting : (img : Image) (f : FrameSpec) {a b : Lent} {r : PictureFit} → Rectification img f a b r → FittingAfter img f (rectifyTests img f a) (a .areas) (b .areas) (a .means) (b .means) r
-fitting img f {a} {b} h =
+-- but by 16, a rectification fits the geometry as `fit_geometry` does, after its own tests
+pub fitting : (img : Image) (f : FrameSpec) {a b : Lent} {r : PictureFit} (h : Rectification img f a b r) → (h .number ≡ 16 → ⊥)
+    → FittingAfter img f (rectifyTests img f a) (a .areas) (b .areas) (a .means) (b .means) r
+fitting img f {a} {b} h other =
     record {
       number = h .number;
       given = h .given;
-      refusal = h .refusal;
+      refusal = as-fit img f (rectifyTests img f a) (h .number) other (h .refusal);
       untouched = λ x y.
           let e = h .untouched x y in
           let u = h .unseen x y in
@@ -57,14 +60,54 @@ fitting img f {a} {b} h =
     rest (low x y) = subst (λ (l : Lent). MeansKept f (a .means) (l .means)) (sym (h .untouched x y)) (refl, refl)
     rest (high x) = h .refused x .means-rest
 
-accepted-number : (img : Image) (f : FrameSpec) {a b : Lent} {r : PictureFit} (h : Rectification img f a b r) → r .verdict ≡ Accepted → h .number ≡ 0
+pub accepted-number : (img : Image) (f : FrameSpec) {a b : Lent} {r : PictureFit} (h : Rectification img f a b r) → r .verdict ≡ Accepted → h .number ≡ 0
 unfolding numberOf
 accepted-number img f h v = sym (verdict-number (h .number)) ∙ ap numberOf (sym (h .given) ∙ v)
 
+-- no test refuses an accepted one
+pub unrefused : (img : Image) (f : FrameSpec) {a b : Lent} {r : PictureFit} (h : Rectification img f a b r) → h .number ≡ 0 → lowestOf (rectifyTests img f a) ≡ 0
+unrefused img f {a} h z =
+    none-where img f (rectifyTests img f a) (guarding img f a) (h .number) (as-fit img f (rectifyTests img f a) (h .number) (λ x. omega (arith, z)) (h .refusal)) z
+
 module _ (img : Image) (f : FrameSpec) (a a′ b b′ : Lent) (r r′ : PictureFit) (h : Rectification img f a b r) (h′ : Rectification img f a′ b′ r′)
     (e : SameTests (rectifyTests img f a) (rectifyTests img f a′)) where
+  same-number : h .number ≡ h′ .number
+  same-number =
+      same-unrectified img f (rectifyTests img f a) (rectifyTests img f a′) (guarding img f a) (guarding img f a′) e (h .number) (h′ .number) (h .refusal) (h′ .refusal)
+
+  -- two that are refused by 16: the corners are those of the picture, and so is the search over them
+  module _ (z : h .number ≡ 16) where
+    abbrev z′ : h′ .number ≡ 16
+    z′ = sym same-number ∙ z
+
+    abbrev seen : Seen img f a b r (h .number)
+    seen = h .refused (omega arith)
+
+    abbrev seen′ : Seen img f a′ b′ r′ (h′ .number)
+    seen′ = h′ .refused (omega (arith, z′))
+
+    stage-agrees : stageOf r ≡ stageOf r′
+    stage-agrees =
+        let c = unscored-card img f (rectifyTests img f a) (h .number) (guarding img f a .most) z (h .refusal) in
+        seen .undecided z (c .0) (c .1 .0) ∙ sym (seen′ .undecided z′ (c .0) (c .1 .0))
+
+    same-unscored : SameFit img (b .areas) (b′ .areas) r r′ (lowestOf (rectifyTests img f a))
+    same-unscored =
+        record {
+          answer =
+              same-answer r r′ (h .given ∙ ap verdictOf same-number ∙ sym (h′ .given)) stage-agrees (h .nowhere (omega arith) ∙ sym (h′ .nowhere (omega (arith, z′))))
+              (counts img f r r′ (seen .looked) (seen′ .looked));
+          look = λ x.
+              look.same-look img f _ _ _ _ _ _ _ _ _ _ (seen .looked) (seen′ .looked) (guarding img f a .ready x) (guarding img f a′ .ready (sym e ∙ x));
+        }
+
   same : SameFit img (b .areas) (b′ .areas) r r′ (lowestOf (rectifyTests img f a))
-  same = same-fit img f (guarding img f a) (guarding img f a′) (fitting img f h) (fitting img f h′) e
+  same = go (eqb (h .number) 16) refl
+    where
+      go : (t : Bool) → eqb (h .number) 16 ≡ t → SameFit img (b .areas) (b′ .areas) r r′ (lowestOf (rectifyTests img f a))
+      go true x = same-unscored (eqb-true _ _ x)
+      go false x =
+          same-fit img f (guarding img f a) (guarding img f a′) (fitting img f h (eqb-false _ _ x)) (fitting img f h′ (λ y. eqb-false _ _ x (same-number ∙ y))) e
 
   module _ (v : r .verdict ≡ Accepted) where
     yes : h .number ≡ 0
@@ -74,18 +117,13 @@ module _ (img : Image) (f : FrameSpec) (a a′ b b′ : Lent) (r r′ : PictureF
     yes′ = accepted-number img f h′ (ap (λ (s : PictureFit). s .verdict) (sym (same .answer)) ∙ v)
 
     none : lowestOf (rectifyTests img f a) ≡ 0
-    none = none-where img f (rectifyTests img f a) (guarding img f a) (h .number) (h .refusal) yes
-
-    -- the same bytes over what either held
-    laid : (fit : GeometryFit) → warped img f fit (a .canonical) ≡ warped img f fit (a′ .canonical)
-    unfolding warped
-    laid fit =
-        filled-whole (byteOf (f .width) (reading img fit)) (canonicalLength f) (a .canonical) (passed img f a none .canonical-long)
-        ∙ sym (filled-whole (byteOf (f .width) (reading img fit)) (canonicalLength f) (a′ .canonical) (passed img f a′ (sym e ∙ none) .canonical-long))
+    none = unrefused img f h yes
 
     canonical-agrees : b .canonical ≡ b′ .canonical
     canonical-agrees =
-        h .accepted yes .laid yes ∙ laid (r .fit) ∙ ap (λ (s : PictureFit). warped img f (s .fit) (a′ .canonical)) (same .answer) ∙ sym (h′ .accepted yes′ .laid yes′)
+        h .accepted yes .laid yes
+        ∙ warped-same img f (r .fit) (a .canonical) (a′ .canonical) (passed img f a none .canonical-long) (passed img f a′ (sym e ∙ none) .canonical-long)
+        ∙ ap (λ (s : PictureFit). warped img f (s .fit) (a′ .canonical)) (same .answer) ∙ sym (h′ .accepted yes′ .laid yes′)
 
   pub determined : Agreement img b b′ r r′ (lowestOf (rectifyTests img f a))
   determined = record { fit = same; canonical = canonical-agrees }

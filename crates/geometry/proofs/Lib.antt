@@ -2,6 +2,8 @@
 pub mod Given
 pub mod Parts
 pub mod Rows
+pub mod Unscored
 pub mod Rectifying
 pub mod Determined
+pub mod Scored
 pub mod Marked

@@ -1,28 +1,42 @@
 -- From the tests and a picture's fit to what `rectify` promises. Assumes nothing.
 use Prim.Native.Nat.{ℕ, zero, suc, _≤_}
-use mathlib.Core.Path.{_≡_, refl, sym, subst}
-use mathlib.Core.Bool.{Bool}
+use mathlib.Core.Path.{_≡_, refl, sym, ap, subst, _∙_}
+use mathlib.Core.Bool.{Bool, true, false, _&&_}
 use mathlib.Core.List.{List}
 use native.Mathlib.Omega.{arith}
-use borrow.Author.Tests.{eqb-true, not-false}
+use borrow.Author.Tests.{eqb-true, eqb-false, not-false}
+use lib.Dec.{T, eqb}
 use lib.ListN.{length}
 use lib.Ieee.{Float}
-use Rattle.frame.specs.Image.{Image}
-use Rattle.frame.specs.Refusals.{lowestOf}
+use Rattle.frame.specs.Image.{Image, byteOf}
+use Rattle.frame.specs.Refusals.{Lowest, lowestOf}
+use Rattle.frame.specs.Refusals.Lowest.{accepted, refused}
 use Rattle.frame.specs.declared.FrameSpec.{FrameSpec}
+use Rattle.frame.specs.declared.Quad.{Quad}
 use Rattle.frame.proofs.Lowest.{none-tested}
+use Rattle.base.proofs.Pick.{pick-yes, pick-no}
+use Rattle.base.proofs.Table.{filled-whole}
 use Rattle.candidates.specs.Areas.{Areas, lengthsOf}
 use Rattle.candidates.specs.Bounds.{Ready}
 use Rattle.candidates.proofs.Refusing.{clear, rising, upto-six}
+use Rattle.fiducials.specs.Answers.{noPlaces}
+use Rattle.fiducials.specs.Contracts.{MarkedBy, centersAt}
+use Rattle.fiducials.proofs.Unique.{corners-mark, marked-unique}
 use Rattle.fit.specs.Contracts.{sampledCells}
+use Rattle.fit.specs.Fits.{noFit}
 use Rattle.fit.specs.declared.GeometryFit.{GeometryFit}
-use Rattle.fit_geometry.specs.Contracts.{fitShort, FitPastTests, answerOf, refusedByTest}
+use Rattle.search.specs.Stages.{keeps, searched}
+use Rattle.search.specs.declared.Outcome.{Outcome}
+use Rattle.search.specs.declared.Stage.{Stage}
+use Rattle.fit_geometry.specs.Contracts.{Unfitted, fitShort, FitPastTests, answerOf, refusedByTest}
 use Rattle.fit_geometry.specs.declared.FitReport.{FitReport}
 use Rattle.fit_geometry.specs.declared.PictureFit.{PictureFit}
+use Rattle.fit_geometry.proofs.Determined.{Kind, fine, low, high, kind}
 use Rattle.fit_geometry.proofs.PastTests.{fit-room, tests-lowest}
-use Rattle.geometry.specs.Warp.{warped}
+use Rattle.geometry.specs.Warp.{reading, warped}
 use Rattle.geometry.specs.Contracts.{canonicalLength, canonicalWrong}
-use Rattle.geometry.specs.Rectification.{Lent, lent, rectifyTests, laidWhere, Seen, Rectification}
+use Rattle.geometry.specs.Rectification.{Lent, lent, rectifyTests, unscored, Unrectified, withoutFit, scoredReport, laidWhere, Seen, Rectification}
+use Rattle.geometry.proofs.Unscored.{score-kept, upto-ten, keeps-one, refused-fit, scored-fit, unscored-fit}
 
 -- ---- the canonical image
 
@@ -35,6 +49,12 @@ pub laid-kept : (n : ℕ) (img : Image) (f : FrameSpec) (fit : GeometryFit) (can
 unfolding laidWhere
 laid-kept zero img f fit canonical h = absurd (h refl)
 laid-kept (suc n) img f fit canonical h = refl
+
+-- the same bytes over whatever it held
+pub warped-same : (img : Image) (f : FrameSpec) (fit : GeometryFit) (c d : List ℕ) → length c ≡ canonicalLength f → length d ≡ canonicalLength f → warped img f fit c ≡ warped img f fit d
+unfolding warped
+warped-same img f fit c d x y =
+    filled-whole (byteOf (f .width) (reading img fit)) (canonicalLength f) c x ∙ sym (filled-whole (byteOf (f .width) (reading img fit)) (canonicalLength f) d y)
 
 -- ---- the tests
 
@@ -50,6 +70,18 @@ passed img f a e =
     let c = clear img f _ _ e in
     let r = fit-room img f (a .areas) (a .means) _ c in
     record { ready = r .0; means-room = r .1; canonical-long = eqb-true _ _ (not-false _ (c .right)) }
+
+-- ---- refusal 16
+
+-- the record of `scoredReport`, where it applies and where not
+pub report-unscored : (p : FitReport) → (eqb (p .number) 0 && unscored (p .stage .kept)) ≡ true
+    → scoredReport p ≡ record { number = 16; stage = withoutFit (p .stage); places = noPlaces; patches = p .patches; candidates = p .candidates; waited = p .waited }
+unfolding scoredReport
+report-unscored p e = sym (pick-yes _ _ _ e)
+
+pub report-scored : (p : FitReport) → (eqb (p .number) 0 && unscored (p .stage .kept)) ≡ false → scoredReport p ≡ p
+unfolding scoredReport
+report-scored p e = sym (pick-no _ _ _ e)
 
 -- ---- `rectify`
 
@@ -68,7 +100,7 @@ module _ (img : Image) (f : FrameSpec) (a : Lent) where
       record {
         number = n;
         given = refl;
-        refusal = r .0;
+        refusal = refused-fit img f (rectifyTests img f a) n (upto-six img f short wrong) h (r .0);
         untouched = λ x y. refl;
         refused = λ x. absurd (omega arith);
         accepted = λ x. absurd (omega arith);
@@ -82,39 +114,134 @@ module _ (img : Image) (f : FrameSpec) (a : Lent) where
   rectify-refused (suc n) r e h p = subst (Rectification img f a a) (sym p) (refusing (suc n) e (omega arith))
 
   module _ (b : Areas) (means : List Float) (p : FitReport) (e : lowestOf (rectifyTests img f a) ≡ 0) (h : FitPastTests img f (a .areas) b (a .means) means p) where
-    abbrev out : List ℕ
-    out = laidWhere (p .number) img f (p .stage .fit) (a .canonical)
+    -- what the call leaves, where its picture's fit is r in the end
+    abbrev left : FitReport → Lent
+    left r = lent b means (laidWhere (r .number) img f (r .stage .fit) (a .canonical))
 
-    seeing : Seen img f a (lent b means out) (answerOf p) (p .number)
-    unfolding answerOf
-    seeing =
-        record {
-          looked = h .looked;
-          means-rest = h .means-rest;
-          corners = h .corners;
-          best = h .best;
-          found = h .found;
-          tried-all = h .tried-all;
-          laid = λ z. sym (laid-warped (p .number) img f (p .stage .fit) (a .canonical) z);
-          kept = λ z. sym (laid-kept (p .number) img f (p .stage .fit) (a .canonical) (λ y. absurd (omega arith)));
-          fruitless = h .fruitless;
-        }
+    lowest-fit : Lowest (Unfitted img f (rectifyTests img f a)) (p .number)
+    lowest-fit = h .lowest (rectifyTests img f a) (none-tested (rectifyTests img f a) (rising img f short wrong) e)
 
-    rectifying : Rectification img f a (lent b means out) (answerOf p)
-    unfolding answerOf
-    rectifying =
-        record {
-          number = p .number;
-          given = refl;
-          refusal = h .lowest (rectifyTests img f a) (none-tested (rectifyTests img f a) (rising img f short wrong) e);
-          untouched = λ x y. absurd (let z : 7 ≤ p .number = h .from-seven x in omega arith);
-          refused = λ x. seeing;
-          accepted = λ x. seeing;
-          unseen = λ x y. absurd (let z : 7 ≤ p .number = h .from-seven x in omega arith);
-          untried = h .untried;
-          nowhere = h .nowhere;
-        }
+    -- the corners, where there is a fit
+    module _ (z : p .number ≡ 0) where
+      abbrev centers : Quad
+      centers = centersAt (b .patches) (p .places)
 
-    pub rectify-reported : (canonical : List ℕ) (r : PictureFit) → canonical ≡ out → r ≡ answerOf p → Rectification img f a (lent b means canonical) r
-    rectify-reported canonical r c q = subst (Rectification img f a (lent b means canonical)) (sym q) (subst (λ (x : List ℕ). Rectification
-        img f a (lent b means x) (answerOf p)) (sym c) rectifying)
+      centers-mark : MarkedBy img f centers
+      centers-mark = corners-mark img f (b .patches) (h .looked .firsts) (p .patches) (p .places) (h .corners z)
+
+      kept-is : searched img f centers .kept ≡ p .stage .kept
+      kept-is = ap (λ (t : Stage). t .kept) (sym (h .found z))
+
+      keeps-some : T (keeps (p .stage .kept))
+      keeps-some = subst (λ (o : Outcome). T (keeps o)) kept-is (keeps-one img f (rectifyTests img f a) (rising img f short wrong) (p .number) z lowest-fit centers centers-mark)
+
+    -- ---- a fit that is refused, or has a score
+    module _ (s : p .number ≡ 0 → unscored (p .stage .kept) ≡ false) where
+      as-lowest : Lowest (Unrectified img f (rectifyTests img f a)) (p .number)
+      as-lowest = go (kind (p .number))
+        where
+          higher : 1 ≤ p .number → Lowest (Unrectified img f (rectifyTests img f a)) (p .number)
+          higher x = refused-fit img f (rectifyTests img f a) (p .number) (upto-six img f short wrong) x lowest-fit
+
+          go : Kind (p .number) → Lowest (Unrectified img f (rectifyTests img f a)) (p .number)
+          go (fine z) =
+              subst (Lowest (Unrectified img f (rectifyTests img f a))) (sym z)
+              (scored-fit img f (rectifyTests img f a) (rising img f short wrong) (p .number) z lowest-fit (centers z) (centers-mark z) (ap unscored (kept-is z) ∙ s z))
+          go (low x y) = higher x
+          go (high x) = higher (omega arith)
+
+      most-ten : p .number ≤ 10
+      most-ten = go lowest-fit
+        where
+          go : Lowest (Unfitted img f (rectifyTests img f a)) (p .number) → p .number ≤ 10
+          go (accepted z g) = omega arith
+          go (refused u g) = upto-ten img f (rectifyTests img f a) (upto-six img f short wrong) (p .number) u
+
+      seeing : Seen img f a (left p) (answerOf p) (p .number)
+      unfolding answerOf
+      seeing =
+          record {
+            looked = h .looked;
+            means-rest = h .means-rest;
+            corners = h .corners;
+            best = h .best;
+            found = h .found;
+            tried-all = h .tried-all;
+            laid = λ z. sym (laid-warped (p .number) img f (p .stage .fit) (a .canonical) z);
+            kept = λ z. sym (laid-kept (p .number) img f (p .stage .fit) (a .canonical) (λ y. absurd (omega arith)));
+            fruitless = h .fruitless;
+            scored = λ z. score-kept (p .stage .kept) (keeps-some z) (s z);
+            undecided = λ z. absurd (let y = most-ten in omega arith);
+          }
+
+      rectifying : Rectification img f a (left p) (answerOf p)
+      unfolding answerOf
+      rectifying =
+          record {
+            number = p .number;
+            given = refl;
+            refusal = as-lowest;
+            untouched = λ x y. absurd (let z : 7 ≤ p .number = h .from-seven x in omega arith);
+            refused = λ x. seeing;
+            accepted = λ x. seeing;
+            unseen = λ x y. absurd (let z : 7 ≤ p .number = h .from-seven x in omega arith);
+            untried = h .untried;
+            nowhere = h .nowhere;
+          }
+
+    -- ---- a fit without a score
+    module _ (z : p .number ≡ 0) (s : unscored (p .stage .kept) ≡ true) where
+      abbrev none : FitReport
+      none = record { number = 16; stage = withoutFit (p .stage); places = noPlaces; patches = p .patches; candidates = p .candidates; waited = p .waited }
+
+      seeing-unscored : Seen img f a (left none) (answerOf none) 16
+      unfolding answerOf withoutFit
+      seeing-unscored =
+          record {
+            looked = h .looked;
+            means-rest = h .means-rest;
+            corners = λ x. absurd (omega arith);
+            best = λ x. absurd (omega arith);
+            found = λ x. absurd (omega arith);
+            tried-all = λ x. absurd (omega arith);
+            laid = λ x. absurd (omega arith);
+            kept = λ x. sym (laid-kept 16 img f noFit (a .canonical) (λ y. omega arith));
+            fruitless = λ x. absurd (omega arith);
+            scored = λ x. absurd (omega arith);
+            undecided = λ x q m. ap withoutFit (h .found z ∙ ap (searched img f) (marked-unique img f (centers z) q (centers-mark z) m));
+          }
+
+      rectifying-unscored : Rectification img f a (left none) (answerOf none)
+      unfolding answerOf
+      rectifying-unscored =
+          record {
+            number = 16;
+            given = refl;
+            refusal = unscored-fit img f (rectifyTests img f a) (rising img f short wrong) (p .number) z lowest-fit (centers z) (centers-mark z) (subst T (sym (ap unscored (kept-is z) ∙ s)) tt);
+            untouched = λ x y. absurd (omega arith);
+            refused = λ x. seeing-unscored;
+            accepted = λ x. absurd (omega arith);
+            unseen = λ x y. absurd (omega arith);
+            untried = λ x y. absurd (omega arith);
+            nowhere = λ x. refl;
+          }
+
+    -- ---- either
+    either : Rectification img f a (left (scoredReport p)) (answerOf (scoredReport p))
+    either = go (eqb (p .number) 0) (unscored (p .stage .kept)) refl refl
+      where
+        as-found : (eqb (p .number) 0 && unscored (p .stage .kept)) ≡ false → (p .number ≡ 0 → unscored (p .stage .kept) ≡ false)
+            → Rectification img f a (left (scoredReport p)) (answerOf (scoredReport p))
+        as-found x s = subst (λ (r : FitReport). Rectification img f a (left r) (answerOf r)) (sym (report-scored p x)) (rectifying s)
+
+        go : (n s : Bool) → eqb (p .number) 0 ≡ n → unscored (p .stage .kept) ≡ s → Rectification img f a (left (scoredReport p)) (answerOf (scoredReport p))
+        go true true x y =
+            subst (λ (r : FitReport). Rectification img f a (left r) (answerOf r)) (sym (report-unscored p (λ i. x i && y i))) (rectifying-unscored (eqb-true _ _ x) y)
+        go true false x y = as-found (λ i. x i && y i) (λ z. y)
+        go false s x y = as-found (λ i. x i && y i) (λ z. absurd (eqb-false _ _ x z))
+
+    pub rectify-reported : (t : FitReport) (canonical : List ℕ) (r : PictureFit) → t ≡ scoredReport p → canonical ≡ left t .canonical → r ≡ answerOf t
+        → Rectification img f a (lent b means canonical) r
+    rectify-reported t canonical r x c q =
+        subst (Rectification img f a (lent b means canonical)) (sym q)
+        (subst (λ (y : List ℕ). Rectification img f a (lent b means y) (answerOf t)) (sym c) (subst (λ (y : FitReport). Rectification img f a (left y) (answerOf y)) (sym x) either))

@@ -3,4 +3,5 @@ pub mod Warp
 pub mod Contracts
 pub mod Rectification
 pub mod Agreement
+pub mod Scored
 pub mod Marked

@@ -2,7 +2,9 @@
 -- Assumes nothing.
 use Prim.Native.Nat.{ℕ, zero, suc, _≤_}
 use mathlib.Core.Path.{_≡_}
+use mathlib.Core.Bool.{Bool, true, false, cond, _&&_}
 use mathlib.Core.List.{List}
+use lib.Dec.{T, eqb}
 use lib.ListN.{length}
 use lib.Ieee.{Float}
 use Rattle.frame.specs.Image.{Image}
@@ -14,9 +16,15 @@ use Rattle.candidates.specs.Contracts.{Looked}
 use Rattle.fiducials.specs.Answers.{noPlaces}
 use Rattle.fiducials.specs.Contracts.{MarkedBy, centersAt, Cornered}
 use Rattle.fit.specs.declared.GeometryFit.{GeometryFit}
+use Rattle.fit.specs.declared.Grade.the-variants.{Score, Outside, TooFew}
 use Rattle.fit.specs.Contracts.{MeansKept}
+use Rattle.fit.specs.Fits.{noFit}
 use Rattle.search.specs.Stages.{begun, searched, lastCenter, BestTrial}
+use Rattle.search.specs.declared.Outcome.{Outcome}
+use Rattle.search.specs.declared.Outcome.the-variants.{NoHomography, Graded}
+use Rattle.search.specs.declared.Stage.{Stage}
 use Rattle.fit_geometry.specs.Contracts.{Unfitted, fitShort, stageOf}
+use Rattle.fit_geometry.specs.declared.FitReport.{FitReport}
 use Rattle.fit_geometry.specs.declared.PictureFit.{PictureFit}
 use Rattle.geometry.specs.Warp.{warped}
 use Rattle.geometry.specs.Contracts.{canonicalWrong}
@@ -35,12 +43,49 @@ rectifyTests img f a =
     pictureTests img f (fitShort img f (lengthsOf (a .areas)) (length (a .means)))
     (canonicalWrong f (length (a .canonical)))
 
+-- ---- refusal 16
+
+-- [21.2] a kept trial is unscored: its grade is outside or too few. A score is one whatever its float; a stage that
+-- keeps none is refused by 10
+unfoldable pub unscored : Outcome → Bool
+unscored NoHomography = false
+unscored (Graded (Score s)) = false
+unscored (Graded (Outside cell)) = true
+unscored (Graded TooFew) = true
+
+-- the conditions of `rectify`, each with its number: those of `fit_geometry`, and 16
+pub data Unrectified (img : Image) (f : FrameSpec) (tests : List Check) (n : ℕ) : Type 0 where
+  unfitted : Unfitted img f tests n → Unrectified img f tests n
+  -- [21.2] 16: "a fit whose kept last trial is unscored"
+  unscoredFit : n ≡ 16 → (q : Quad) → MarkedBy img f q → T (unscored (searched img f q .kept))
+      → Unrectified img f tests n
+
+-- what a search kept and counted, without its fit
+unfoldable pub withoutFit : Stage → Stage
+withoutFit s = record { kept = s .kept; fit = noFit; tried = s .tried; homographies = s .homographies }
+
+-- a picture's fit, or 16 in its place: no fit and no places then
+unfoldable pub scoredReport : FitReport → FitReport
+scoredReport p =
+    cond (eqb (p .number) 0 && unscored (p .stage .kept))
+    (record {
+      number = 16;
+      stage = withoutFit (p .stage);
+      places = noPlaces;
+      patches = p .patches;
+      candidates = p .candidates;
+      waited = p .waited;
+    })
+    p
+
+-- ---- the canonical image
+
 -- the canonical image under a fit that was found, with the number 0; else as it was
 unfoldable pub laidWhere : ℕ → Image → FrameSpec → GeometryFit → List ℕ → List ℕ
 laidWhere zero img f fit canonical = warped img f fit canonical
 laidWhere (suc n) img f fit canonical = canonical
 
--- ---- the areas and the answer of a call that is accepted, with the number 0, or refused by 7 to 10
+-- ---- the areas and the answer of a call that is accepted, with the number 0, or refused by 7 or a higher number
 pub record Seen (img : Image) (f : FrameSpec) (a b : Lent) (r : PictureFit) (number : ℕ) : Type 0 where
   -- [0.7] after an acceptance, and after a refusal by 7 or more, the patch list starts with every patch once, in
   -- raster order, and their areas add up to the dark pixels
@@ -66,6 +111,10 @@ pub record Seen (img : Image) (f : FrameSpec) (a b : Lent) (r : PictureFit) (num
   pub kept : 7 ≤ number → b .canonical ≡ a .canonical
   -- by 10: the trials up to and with the stage that has none with a homography
   pub fruitless : number ≡ 10 → (q : Quad) → MarkedBy img f q → stageOf r ≡ searched img f q
+  -- [21.5] "its accepted results now all carry a score"
+  pub scored : number ≡ 0 → (s : Float) × (r .kept ≡ Graded (Score s))
+  -- by 16: the kept trial's grade and the counts of the whole search, and no fit
+  pub undecided : number ≡ 16 → (q : Quad) → MarkedBy img f q → stageOf r ≡ withoutFit (searched img f q)
 
 -- ---- `rectify`
 pub record Rectification (img : Image) (f : FrameSpec) (a b : Lent) (r : PictureFit) : Type 0 where
@@ -74,10 +123,10 @@ pub record Rectification (img : Image) (f : FrameSpec) (a b : Lent) (r : Picture
   pub given : r .verdict ≡ verdictOf number
   -- [0.3] a rectification is refused exactly when a condition of the requirements holds for it, by the lowest such
   -- number
-  pub refusal : Lowest (Unfitted img f (rectifyTests img f a)) number
+  pub refusal : Lowest (Unrectified img f (rectifyTests img f a)) number
   -- [2.17] 1 to 6 touch no memory
   pub untouched : 1 ≤ number → number ≤ 6 → b ≡ a
-  -- [2.18] the areas after 7 to 10, and after an acceptance
+  -- [2.18, 21.9] the areas after 7 to 10 and 16, and after an acceptance
   pub refused : 7 ≤ number → Seen img f a b r number
   pub accepted : number ≡ 0 → Seen img f a b r number
   -- what an answer holds where there is nothing to tell (the requirements give a refusal its number only): after 1 to

@@ -2,7 +2,10 @@
 use candidates::Lengths;
 use candidates::internal::areas_short;
 use candidates::internal::picture_refused;
+use fiducials::internal::no_places;
 use fit::GeometryFit;
+use fit::Grade;
+use fit::internal::no_fit;
 use fit_geometry::FitReport;
 use fit_geometry::internal::means_short;
 use float::internal::to_f64;
@@ -10,6 +13,8 @@ use frame::FrameSpec;
 use frame::Point;
 use frame::Rgb;
 use frame::internal::frame_outside;
+use search::Outcome;
+use search::Stage;
 ghost use mathlib.Core.Path.{_≡_};
 ghost use mathlib.Core.Bool.{false, not};
 ghost use Prim.Native.Nat.{_+_, _*_, _<_};
@@ -24,7 +29,7 @@ ghost use Rattle.candidates.specs.Areas.{pictureTests};
 ghost use Rattle.fit_geometry.specs.Contracts.{fitShort};
 ghost use Rattle.geometry.specs.Warp.{reading, rowByte, warped};
 ghost use Rattle.geometry.specs.Contracts.{canonicalLength, canonicalWrong};
-ghost use Rattle.geometry.specs.Rectification.{laidWhere};
+ghost use Rattle.geometry.specs.Rectification as spec;
 
 // The centre of the pixel in column or row n.
 fn center(n: usize) -> f64
@@ -135,6 +140,57 @@ pub fn refused(
     picture_refused(capture, w, h, frame, short, wrong)
 }
 
+// A kept trial without a score.
+fn unscored(kept: Outcome) -> bool
+    ensures { λ r. ⌜ r ≡ spec.unscored kept ⌝ }
+{
+    match kept {
+        Outcome::NoHomography => false,
+        Outcome::Graded(g) => match g {
+            Grade::Score(_) => false,
+            Grade::Outside(_) => true,
+            Grade::TooFew => true,
+        },
+    }
+}
+
+// What a search kept and counted, without its fit.
+fn without_fit(stage: Stage) -> Stage
+    ensures { λ r. ⌜ r ≡ spec.withoutFit stage ⌝ }
+{
+    let kept = stage.kept;
+    let fit = no_fit();
+    Stage {
+        kept: kept,
+        fit: fit,
+        tried: stage.tried,
+        homographies: stage.homographies,
+    }
+}
+
+// Refusal 16 of a picture that has a fit: the kept trial is unscored. Then there is no fit, and the
+// places are 0.
+pub fn scored(picture: FitReport) -> FitReport
+    ensures { λ r. ⌜ r ≡ spec.scoredReport picture ⌝ }
+{
+    let number = picture.number;
+    let stage = picture.stage;
+    let kept = stage.kept;
+    if (number == 0) & unscored(kept) {
+        let places = no_places();
+        let found = without_fit(stage);
+        return FitReport {
+            number: 16,
+            stage: found,
+            places: places,
+            patches: picture.patches,
+            candidates: picture.candidates,
+            waited: picture.waited,
+        };
+    }
+    picture
+}
+
 // The canonical image under the fit of a picture that is not refused; else it stays.
 pub fn lay(
     capture: &[u8],
@@ -146,7 +202,7 @@ pub fn lay(
 )
     requires { ⌜ CaptureHeld (image w h (now capture)) × FrameHeld frame × (length (now canonical)
         ≡ canonicalLength frame) ⌝ }
-    ensures { λ _. ⌜ now (canonical .exit) ≡ laidWhere (picture .number) (image w h (now (capture .entry))) frame
+    ensures { λ _. ⌜ now (canonical .exit) ≡ spec.laidWhere (picture .number) (image w h (now (capture .entry))) frame
         (picture .stage .fit) (now (canonical .entry)) ⌝ }
 {
     let number = picture.number;

@@ -1,4 +1,5 @@
 // The way from a capture to the flat card.
+use book::FitRecord;
 use candidates::Lengths;
 use fit::GeometryFit;
 use fit_geometry::PictureFit;
@@ -12,10 +13,11 @@ use frame::internal::frame_outside;
 use internal::canonical_wrong;
 use internal::lay;
 use internal::refused;
+use internal::scored;
 use internal::warp;
 ghost use Rattle.frame.specs.Image.{image};
 ghost use Rattle.candidates.specs.Areas.{areas};
-ghost use Rattle.geometry.specs.Contracts.{Warping};
+ghost use Rattle.geometry.specs.Contracts.{Warping, RecordWarping};
 ghost use Rattle.geometry.specs.Rectification.{Rectification, lent};
 
 pub mod internal;
@@ -46,8 +48,38 @@ pub fn warp_with(
     Verdict::Accepted
 }
 
-// Finds the card in a capture and lays it flat. Refusals 1 to 10; refused, the canonical image
-// stays.
+// The same under the fit that a book's record keeps; its panel and camera are not looked at. A
+// grade but 0 (scored) is refused, by 16 after 1, 2 and 4.
+pub fn warp_record(
+    capture: &[u8],
+    w: usize,
+    h: usize,
+    frame: FrameSpec,
+    kept: FitRecord,
+    canonical: &mut [u8],
+) -> Verdict
+    ensures { λ r. ⌜ RecordWarping (image w h (now (capture .entry))) frame kept (now (canonical .entry))
+        (now (canonical .exit)) r ⌝ }
+{
+    if frame_outside(frame) {
+        return Verdict::Refused(1);
+    }
+    if capture_wrong(capture, w, h) {
+        return Verdict::Refused(2);
+    }
+    if canonical_wrong(frame, canonical.len()) {
+        return Verdict::Refused(4);
+    }
+    if kept.grade != 0 {
+        return Verdict::Refused(16);
+    }
+    let fit = kept.fit();
+    warp(capture, w, h, frame, fit, canonical);
+    Verdict::Accepted
+}
+
+// Finds the card in a capture and lays it flat. Refusals 1 to 10, and 16 for a fit whose kept trial
+// is unscored; refused, the canonical image stays.
 pub fn rectify(
     capture: &[u8],
     w: usize,
@@ -87,7 +119,7 @@ pub fn rectify(
     if number != 0 {
         return refused_by_test(number);
     }
-    let picture = fit_picture(
+    let found = fit_picture(
         capture,
         w,
         h,
@@ -102,6 +134,7 @@ pub fn rectify(
         blob_index,
         means,
     );
+    let picture = scored(found);
     lay(capture, w, h, frame, picture, canonical);
     answer(picture)
 }

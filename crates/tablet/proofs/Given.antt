@@ -1,5 +1,5 @@
 -- The public functions' promises, over the number that a call gives in place of the public function's answer. Assumes nothing.
-use mathlib.Core.Path.{_≡_, refl, ap, _∙_}
+use mathlib.Core.Path.{_≡_, refl, ap, subst, _∙_}
 use mathlib.Core.List.{List}
 use Prim.Native.Nat.{ℕ, zero, suc}
 use lib.Ieee.{Float}
@@ -26,10 +26,11 @@ use Rattle.candidates.specs.Contracts.{Listing}
 use Rattle.fiducials.specs.Contracts.{Detection}
 use Rattle.frame.specs.declared.Quad.{Quad}
 use Rattle.fiducials.specs.declared.Places.{Places}
-use Rattle.geometry.specs.Contracts.{Warping}
+use Rattle.geometry.specs.Contracts.{Warping, RecordWarping}
 use Rattle.page.specs.Contracts.{Paging}
 use Rattle.book.specs.Layout.{bookLength, countIn}
 use Rattle.book.specs.Contracts.{Reading, Writing}
+use Rattle.book.specs.declared.FitRecord.{FitRecord}
 use Rattle.geometry.specs.Warp.{warped}
 use Rattle.fit.specs.Numbers.{fitOf}
 
@@ -70,6 +71,11 @@ warping img f fit t c c′ v r p e s =
       accepted = λ z. s .accepted z ∙ ap (λ t. warped img f t c) p;
       refused = s .refused;
     }
+
+pub record-warping : (img : Image) (f : FrameSpec) (t u : FitRecord) (c c′ : List ℕ) (v : Verdict) (r : ℕ) → t ≡ u → r ≡ numberOf v → RecordWarping img f t c c′ v
+    → RecordWarping img f u c c′ (verdictOf r)
+record-warping img f t u c c′ v r p e s =
+    subst (λ (y : FitRecord). RecordWarping img f y c c′ (verdictOf r)) p (record { given = verdict-is v _ r (s .given) e; accepted = s .accepted; refused = s .refused })
 
 pub labelling : (m : List ℕ) (w h : ℕ) (a b : PatchAreas) (v : Verdict) (n waited r : ℕ) → r ≡ numberOf v → Labelling m w h a b v n waited
     → Labelling m w h a b (verdictOf r) n waited

@@ -12,7 +12,8 @@ use Rattle.blobs.specs.Areas.{PatchAreas}
 use Rattle.blobs.specs.Contracts.{Labelling}
 use Rattle.fit.specs.Contracts.{Scoring, scoredAs}
 use Rattle.fit.specs.Grid.{gradeOf, scoreOf}
-use Rattle.geometry.specs.Contracts.{Warping}
+use Rattle.book.specs.Layout.{recordAt}
+use Rattle.geometry.specs.Contracts.{Warping, RecordWarping}
 use Rattle.candidates.specs.Areas.{Areas}
 use Rattle.candidates.specs.Contracts.{Listing}
 use Rattle.fiducials.specs.Contracts.{Detection}
@@ -27,6 +28,13 @@ use Rattle.tablet.specs.Tests.{captureFirst, maskFirst}
 abbrev pub Warped : Image → FrameSpec → List Float → List ℕ → List ℕ → ℕ → Type 0
 Warped img f fit c c′ r =
     Over (short fit 13) (captureFirst img f) r (c′ ≡ c) (Warping img f (fitOf fit) c c′ (verdictOf r))
+
+-- [21.7] `warp_record`: the record of that grade and the first thirteen numbers; its panel and camera, which the warp
+-- does not look at, are 0
+abbrev pub RecordWarped : Image → FrameSpec → ℕ → List ℕ → List ℕ → List ℕ → ℕ → Type 0
+RecordWarped img f grade numbers c c′ r =
+    Over (short numbers 13) (captureFirst img f) r (c′ ≡ c)
+    (RecordWarping img f (recordAt (0 ∷ 0 ∷ grade ∷ []) numbers 0) c c′ (verdictOf r))
 
 -- `grid_score`: its answer, and the numbers in the slices for grade and score
 pub record Graded (img : Image) (f : FrameSpec) (fit means means′ : List Float) (grade grade′ : List ℕ)

@@ -5,8 +5,8 @@
 // `tablet_luma`, which refuses nothing and gives the luma. The number is the lowest that applies,
 // but for `tablet_read_book`, which gives 3 after 14 and 15. Numbers are handed in and answered in
 // lent slices, which may be longer than they need be; a shorter one is refusal 3. What lies past
-// the numbers of a slice is never written, and a refusal by 1 to 6 or 12 to 15 writes nothing at
-// all.
+// the numbers of a slice is never written. A refusal by 1 to 6 or 12 to 15 writes nothing at all,
+// and one by 16 no canonical image and no fit.
 mod answers;
 mod books;
 mod fits;
@@ -43,6 +43,7 @@ pub use pages::tablet_candidate_page;
 pub use pictures::tablet_bilinear;
 pub use pictures::tablet_label_blobs;
 pub use pictures::tablet_luma;
+pub use pictures::tablet_warp_record;
 pub use pictures::tablet_warp_with;
 pub use whole::tablet_fit_geometry;
 pub use whole::tablet_rectify;

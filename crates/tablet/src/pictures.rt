@@ -6,6 +6,7 @@ use super::answers::mask_first;
 use super::answers::number_of;
 use super::slices::store_bytes;
 use super::slices::store_counts;
+use book::internal::record_at;
 use frame::FrameSpec;
 ghost use mathlib.Core.Path.{_≡_};
 ghost use Rattle.frame.specs.Image.{image};
@@ -15,7 +16,7 @@ ghost use Rattle.blobs.specs.Areas.{patchAreas};
 ghost use Rattle.tablet.specs.Slices.{Answer};
 ghost use Rattle.tablet.specs.Layouts.{frame, colourNumbers};
 ghost use Rattle.tablet.specs.Tests.{colourTests};
-ghost use Rattle.tablet.specs.Contracts.{Warped, LabelledOver};
+ghost use Rattle.tablet.specs.Contracts.{Warped, RecordWarped, LabelledOver};
 
 // The colour of a capture at a position.
 #[no_mangle]
@@ -79,6 +80,37 @@ pub extern "C" fn tablet_warp_with(
     }
     let t = fit::internal::fit_of(fit);
     let v = geometry::warp_with(capture, w, h, f, t, canonical);
+    number_of(v)
+}
+
+// The same under a book's record: its grade, and the 13 bit patterns of its fit.
+#[no_mangle]
+pub extern "C" fn tablet_warp_record(
+    capture: &[u8],
+    w: usize,
+    h: usize,
+    width: usize,
+    height: usize,
+    cell: usize,
+    margin: usize,
+    grade: u32,
+    numbers: &[u64],
+    canonical: &mut [u8],
+) -> u32
+    ensures { λ r. ⌜ RecordWarped (image w h (now (capture .entry))) (frame width height cell margin) grade
+        (now (numbers .entry)) (now (canonical .entry)) (now (canonical .exit)) r ⌝ }
+{
+    let f = FrameSpec {
+        width: width,
+        height: height,
+        cell: cell,
+        margin: margin,
+    };
+    if numbers.len() < 13 {
+        return capture_first(capture, w, h, f);
+    }
+    let kept = record_at(&[0, 0, grade], numbers, 0);
+    let v = geometry::warp_record(capture, w, h, f, kept, canonical);
     number_of(v)
 }
 

@@ -5,13 +5,17 @@
 //             ring's; the same without that ring
 //   2 to 4    one accepted under a frame of 192 by 192, one refused by 7, one by 9
 //   5 to 55   a sample of every kind, 27 of them accepted
-//   56, 57    a kept trial with cells outside the picture, of which the first by row is neither the
-//             first by column nor the last
+//   56, 57    refused by 16: a kept trial with cells outside the picture, of which the first by row
+//             is neither the first by column nor the last
+//   58        refused by 16: too few cells
+//   59, 60    one picture, by a frame with 15 sampled cells, and by one with 16: refused by 16, and
+//             accepted
+// After 16 the rest of the block is the answer of `fit_geometry`, which takes such a capture.
 mod file; // file.rt: a capture file
 mod print; // print.rt: an answer's lines
 
 fn main() {
-    answer_all(58);
+    answer_all(61);
 }
 
 // Rectifies the captures 0.cap, 1.cap .. of the folder that the program is run in, and prints each
@@ -87,5 +91,23 @@ fn answer(
         means,
         &mut card[..bytes],
     );
-    print::answer(r, s, mask, patches, candidates, blob_index, card);
+    let refusal = print::answer(r, s, mask, patches, candidates, blob_index, card);
+    if refusal == 16 {
+        let fit = fit_geometry::fit_geometry(
+            capture,
+            s.w,
+            s.h,
+            frame,
+            luma,
+            integral,
+            mask,
+            seen,
+            waiting,
+            patches,
+            candidates,
+            blob_index,
+            means,
+        );
+        print::fitted(fit);
+    }
 }

@@ -43,7 +43,7 @@ pub(crate) fn head(capture: usize, s: Sizes) {
     line(b"frame", &numbers);
 }
 
-// The rest of the block, as far as the answer goes.
+// The rest of the block, as far as the answer of `rectify` goes; its number.
 pub(crate) fn answer(
     r: PictureFit,
     s: Sizes,
@@ -52,12 +52,14 @@ pub(crate) fn answer(
     candidates: &[f64],
     blob_index: &[u32],
     canonical: &[u8],
-) {
+) -> u32 {
     let verdict = r.verdict;
-    let number = refusal(verdict);
+    let number = number_of(verdict);
+    let refusal = [number as u64];
+    line(b"refusal", &refusal);
     if 0 < number {
         if number < 7 {
-            return;
+            return number;
         }
     }
     first(b"mask", mask, s.pixels);
@@ -66,17 +68,27 @@ pub(crate) fn answer(
         flat(r);
         first(b"canonical", canonical, s.bytes);
     }
+    number
 }
 
-// Prints the refusal's number, 0 where there is none, and answers it.
-fn refusal(verdict: Verdict) -> u32 {
-    let n = match verdict {
+// The answer of `fit_geometry`.
+pub(crate) fn fitted(r: PictureFit) {
+    let verdict = r.verdict;
+    let number = number_of(verdict);
+    if number == 0 {
+        flat(r);
+    } else {
+        let refusal = [number as u64];
+        line(b"no fit", &refusal);
+    }
+}
+
+// A refusal's number, 0 of an acceptance.
+fn number_of(verdict: Verdict) -> u32 {
+    match verdict {
         Verdict::Accepted => 0,
         Verdict::Refused(n) => n,
-    };
-    let number = [n as u64];
-    line(b"refusal", &number);
-    n
+    }
 }
 
 // A word, and the sum of the first n bytes.

@@ -28,6 +28,9 @@ fn main() {
     moved[2] = moved[2] + 40.0;
     grid_score(&capture, &moved);
     warp_with(&capture, &fit);
+    let numbers = patterns(&fit);
+    warp_record(&capture, 0, &numbers);
+    warp_record(&capture, 1, &numbers);
     bilinear(&capture);
     luma();
     lengths();
@@ -81,6 +84,32 @@ fn grid_score(capture: &[u8; 43008], fit: &[f64; 13]) {
 fn warp_with(capture: &[u8; 43008], fit: &[f64; 13]) {
     let mut canonical = [0u8; 119808];
     let r = tablet::tablet_warp_with(capture, 128, 112, 208, 192, 8, 48, fit, &mut canonical);
+    word(r as u64);
+    bytes(&canonical, 936);
+}
+
+fn patterns(fit: &[f64; 13]) -> [u64; 13] {
+    let mut numbers = [0u64; 13];
+    for i in 0..13 {
+        numbers[i] = vectors::bits(fit[i]);
+    }
+    numbers
+}
+
+fn warp_record(capture: &[u8; 43008], grade: u32, numbers: &[u64; 13]) {
+    let mut canonical = [5u8; 119808];
+    let r = tablet::tablet_warp_record(
+        capture,
+        128,
+        112,
+        208,
+        192,
+        8,
+        48,
+        grade,
+        numbers,
+        &mut canonical,
+    );
     word(r as u64);
     bytes(&canonical, 936);
 }

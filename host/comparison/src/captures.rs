@@ -1,7 +1,7 @@
 //! One capture on both sides: all that demand 2 names, planes and lists too.
 
 use crate::direct::graded;
-use crate::original::{self as o, Answer};
+use crate::original::{self as o, Answer, Flat};
 use crate::{bits, pages, Case, Memory};
 use flatten::ffi;
 use std::fmt::Debug;
@@ -49,17 +49,30 @@ fn listed(ours: &[u64], count: u64, waited: u64, theirs: &[[u64; 7]]) -> Result<
     Ok(())
 }
 
+/// What is told of a search whose kept trial has no score.
+fn unscored(counts: &[u64], c: &Case, a: &Answer) -> Result<(), String> {
+    let Some(flat) = &a.flat else { return Err("the original has no fit".into()) };
+    each("corners", &counts[ffi::PLACES..ffi::PLACES + 4], &[0; 4], |p| p)?;
+    searched(counts, flat)?;
+    graded(&o::image(c), c.frame, &flat.fit, [counts[ffi::GRADE], counts[ffi::OUTSIDE_CELL]], flat.score)
+}
+
+fn searched(counts: &[u64], flat: &Flat) -> Result<(), String> {
+    eq("trials", counts[ffi::TRIALS], 78)?;
+    eq("homographies", counts[ffi::HOMOGRAPHIES] as usize, flat.homographies)
+}
+
 fn fitted(counts: &[u64], fit: &[f64], c: &Case, a: &Answer) -> Result<(), String> {
     let (Some(found), Some(flat)) = (&a.found, &a.flat) else { return Err("the original has no fit".into()) };
     each("corners", &counts[ffi::PLACES..ffi::PLACES + 4], &found.corners.map(|p| p as u64), |p| p)?;
     each("fit", &fit[..13], &flat.fit, bits)?;
     eq("score", bits(fit[13]), bits(flat.score))?;
     graded(&o::image(c), c.frame, &fit[..13], [counts[ffi::GRADE], counts[ffi::OUTSIDE_CELL]], fit[13])?;
-    eq("trials", counts[ffi::TRIALS], 78)?;
-    eq("homographies", counts[ffi::HOMOGRAPHIES] as usize, flat.homographies)
+    searched(counts, flat)
 }
 
-/// Runs every public function that takes a capture on both sides, and gives the refusal number.
+/// Runs every public function that takes a capture on both sides, and gives the refusal number of `rectify`. Where that is 16 the
+/// original's card is not compared with `rectify`'s, which has none; its fit is, with that of `fit_geometry`.
 pub fn check(c: &Case) -> Result<u32, String> {
     let a = o::answer(c);
     let mut m = Memory::new(c.w, c.h, c.frame);
@@ -68,22 +81,29 @@ pub fn check(c: &Case) -> Result<u32, String> {
     let (mut counts, mut fit) = ([77; ffi::COUNTS_LEN], [f64::NAN; ffi::SCORED_FIT_LEN]);
     let (mut areas, means, canonical) = m.lend();
     let number = ffi::rectify(&c.data, c.w, c.h, c.frame, &mut areas, means, canonical, &mut counts, &mut fit);
-    eq("rectify", number, a.number)?;
-    if matches!(number, 0 | 7..=10) {
+    eq("rectify", number, a.rectify_number())?;
+    if matches!(number, 0 | 7..=10 | 16) {
         looked(&m, &counts, &a)?;
     }
     match &a.flat {
-        Some(flat) => {
+        Some(flat) if number == 0 => {
             fitted(&counts, &fit, c, &a)?;
+            eq("grade", counts[ffi::GRADE], ffi::SCORED)?;
             each("canonical image", &m.canonical, &flat.canonical, |b| b)?;
         }
-        None => each("canonical image", &m.canonical, &untouched, |b| b)?,
+        _ => {
+            each("canonical image", &m.canonical, &untouched, |b| b)?;
+            each("fit", &fit, &[f64::NAN; ffi::SCORED_FIT_LEN], bits)?;
+        }
+    }
+    if number == 16 {
+        unscored(&counts, c, &a)?;
     }
     others(c, &a)?;
     Ok(number)
 }
 
-/// fiducial_candidates, detect_fiducials, fit_geometry, label_blobs, grid_score and warp_with.
+/// fiducial_candidates, detect_fiducials, fit_geometry, label_blobs, grid_score, warp_with and warp_record.
 fn others(c: &Case, a: &Answer) -> Result<(), String> {
     let look_number = if a.number >= 7 { 0 } else { a.number };
     let mut m = Memory::new(c.w, c.h, c.frame);
@@ -125,6 +145,13 @@ fn others(c: &Case, a: &Answer) -> Result<(), String> {
         graded(&o::image(c), c.frame, &flat.fit, grade, score[0]).map_err(|e| format!("grid_score: {e}"))?;
         eq("warp_with", ffi::warp_with(&c.data, c.w, c.h, c.frame, &flat.fit, &mut m.canonical), 0)?;
         each("warp_with's image", &m.canonical, &flat.canonical, |b| b)?;
+        // The record that keeps this fit, over a card that is there.
+        let before: Vec<u8> = flat.canonical.iter().map(|b| !b).collect();
+        m.canonical.copy_from_slice(&before);
+        let numbers = flat.fit.map(f64::to_bits);
+        let number = ffi::warp_record(&c.data, c.w, c.h, c.frame, grade[0] as u32, &numbers, &mut m.canonical);
+        eq("warp_record", number, a.rectify_number())?;
+        each("warp_record's image", &m.canonical, if number == 0 { &flat.canonical } else { &before }, |b| b)?;
     }
     Ok(())
 }

@@ -17,6 +17,7 @@ pub enum Function {
     LabelBlobs,
     GridScore,
     WarpWith,
+    WarpRecord,
     StampFiducials,
     MarkerCenters,
     FitFor,
@@ -39,6 +40,7 @@ const FUNCTIONS: &[Function] = &[
     Function::LabelBlobs,
     Function::GridScore,
     Function::WarpWith,
+    Function::WarpRecord,
     Function::StampFiducials,
     Function::MarkerCenters,
     Function::FitFor,
@@ -65,14 +67,30 @@ struct Call {
     colour: Vec<u8>,
     /// A fit, points or candidates, handed in.
     given: Vec<f64>,
+    /// Of a record, whose fit is given.
+    grade: u32,
     /// How many candidates, and the page for them.
     count: usize,
     page: Vec<u8>,
     book: books::Call,
 }
 
+/// The original's numbers for what passes 1 to 6.
+#[derive(Clone, Copy)]
+struct Numbers {
+    rectify: u32,
+    fit: u32,
+}
+
+impl Numbers {
+    fn of(c: &Case) -> Numbers {
+        let a = original::answer(c);
+        Numbers { rectify: a.rectify_number(), fit: a.number }
+    }
+}
+
 /// Captures with the original's answers.
-pub struct Pool(Vec<(Case, u32)>);
+pub struct Pool(Vec<(Case, Numbers)>);
 
 impl Pool {
     pub fn new(seed: u64) -> Pool {
@@ -81,11 +99,11 @@ impl Pool {
         let mut cases = Vec::new();
         while cases.len() < 96 {
             let mut c = from[cases.len() % from.len()](&mut r);
-            // Few cells make a fit quick; the markers are the same.
-            c.frame.cell = r.between(4, 9);
+            // Few cells make a fit quick; the markers are the same. Where the margin has room, now and then too few for a score.
+            c.frame.cell = if c.frame.margin >= 56 && r.chance(0.3) { r.between(30, 48) } else { r.between(4, 9) };
             if c.w * c.h <= 20000 {
-                let number = original::answer(&c).number;
-                cases.push((c, number));
+                let numbers = Numbers::of(&c);
+                cases.push((c, numbers));
             }
         }
         Pool(cases)
@@ -100,9 +118,8 @@ fn frame_outside(f: Frame) -> bool {
     !(side(f.width) && side(f.height) && (1..=512).contains(&f.cell) && f.margin <= 4096)
 }
 
-/// The lowest refusal (docs/REQUIREMENTS.md, 2.12): a list of numbers and whether each applies. `seen` is the
-/// original's number for what passes 1 to 6.
-fn lowest(c: &Call, seen: u32) -> u32 {
+/// The lowest refusal (docs/REQUIREMENTS.md, 2.12): a list of numbers and whether each applies.
+fn lowest(c: &Call, seen: Numbers) -> u32 {
     let (f, m, case) = (c.case.frame, &c.memory, &c.case);
     let frame_bad = frame_outside(f);
     let sides_bad = !(side(case.w) && side(case.h));
@@ -141,7 +158,7 @@ fn lowest(c: &Call, seen: u32) -> u32 {
             (4, card_wrong),
             (5, no_layout),
             (6, tiny),
-            (seen, seen >= 7),
+            (seen.rectify, seen.rectify >= 7),
         ],
         Function::FitGeometry => {
             vec![
@@ -149,11 +166,17 @@ fn lowest(c: &Call, seen: u32) -> u32 {
                 (3, look_short || means_short || counts < 11 || numbers < 14),
                 (5, no_layout),
                 (6, tiny),
-                (seen, seen >= 7),
+                (seen.fit, seen.fit >= 7),
             ]
         }
         Function::DetectFiducials => {
-            vec![(2, capture_bad), (3, look_short || counts < 7 || numbers < 8), (5, no_layout), (6, tiny), (seen, (7..10).contains(&seen))]
+            vec![
+                (2, capture_bad),
+                (3, look_short || counts < 7 || numbers < 8),
+                (5, no_layout),
+                (6, tiny),
+                (seen.fit, (7..10).contains(&seen.fit)),
+            ]
         }
         Function::FiducialCandidates => vec![(2, capture_bad), (3, look_short || counts < 3), (5, no_layout), (6, tiny)],
         Function::LabelBlobs => vec![
@@ -162,6 +185,7 @@ fn lowest(c: &Call, seen: u32) -> u32 {
         ],
         Function::GridScore => vec![(2, capture_bad), (3, given < 13 || means_short || counts < 2 || numbers < 1)],
         Function::WarpWith => vec![(2, capture_bad), (3, given < 13), (4, card_wrong)],
+        Function::WarpRecord => vec![(2, capture_bad), (3, given < 13), (4, card_wrong), (16, c.grade != 0)],
         Function::StampFiducials => vec![(2, capture_bad), (5, no_layout)],
         Function::MarkerCenters => vec![(3, numbers < 8), (5, no_layout)],
         // The points of FitFor are never degenerate here.
@@ -186,6 +210,10 @@ fn run(c: &mut Call) -> u32 {
         Function::LabelBlobs => ffi::label_blobs(areas.mask, w, h, areas.seen, areas.waiting, areas.patches, &mut c.counts),
         Function::GridScore => ffi::grid_score(capture, w, h, f, &c.given, means, &mut c.counts, &mut c.numbers),
         Function::WarpWith => ffi::warp_with(capture, w, h, f, &c.given, canonical),
+        Function::WarpRecord => {
+            let numbers: Vec<u64> = c.given.iter().map(|x| x.to_bits()).collect();
+            ffi::warp_record(capture, w, h, f, c.grade, &numbers, canonical)
+        }
         Function::StampFiducials => ffi::stamp_fiducials(capture, w, h, f),
         Function::MarkerCenters => ffi::marker_centers(f, &mut c.numbers),
         Function::FitFor => ffi::fit_for(w, h, f, &c.given, 0.01, &mut c.numbers),
@@ -265,9 +293,9 @@ fn book_call(r: &mut Random, wrong: f64, function: Function) -> books::Call {
 }
 
 /// Most calls have nothing wrong or one thing; some have anything.
-fn call(r: &mut Random, pool: &Pool) -> (Call, u32) {
-    let (case, number) = &pool.0[r.below(pool.0.len())];
-    let (mut case, mut number) = (case.clone(), *number);
+fn call(r: &mut Random, pool: &Pool) -> (Call, Numbers) {
+    let (case, numbers) = &pool.0[r.below(pool.0.len())];
+    let (mut case, mut seen) = (case.clone(), *numbers);
     let wrong = r.one_of(&[0.0, 0.0, 0.05, 0.05, 0.3]);
     let function = r.one_of(FUNCTIONS);
     let true_case = case.clone();
@@ -345,6 +373,7 @@ fn call(r: &mut Random, pool: &Pool) -> (Call, u32) {
         numbers: vec![0.0; length(r, numbers_len, wrong)],
         colour: vec![0; length(r, 3, wrong)],
         given,
+        grade: if r.chance(2.0 * wrong) { r.one_of(&[1, 2, 3, u32::MAX]) } else { 0 },
         count,
         page: vec![0; page_len],
         book: if books { book_call(r, wrong, function) } else { books::Call::default() },
@@ -352,10 +381,11 @@ fn call(r: &mut Random, pool: &Pool) -> (Call, u32) {
     };
     // A call that passes 1 to 6 has the original's answer to what it is now handed.
     let same = c.case.frame == true_case.frame && (c.case.w, c.case.h) == (true_case.w, true_case.h) && c.case.data == true_case.data;
-    if !same && lowest(&c, 0) == 0 && matches!(function, Function::Rectify | Function::FitGeometry | Function::DetectFiducials) {
-        number = original::answer(&c.case).number;
+    let looks = matches!(function, Function::Rectify | Function::FitGeometry | Function::DetectFiducials);
+    if !same && looks && lowest(&c, Numbers { rectify: 0, fit: 0 }) == 0 {
+        seen = Numbers::of(&c.case);
     }
-    (c, number)
+    (c, seen)
 }
 
 /// The smallest areas that do: what longer ones are compared with.
@@ -426,7 +456,7 @@ fn written(c: &Call, number: u32) -> (Written, [usize; 3], usize) {
         Function::FiducialCandidates => (look(0), [3, 0, 0], 0),
         Function::LabelBlobs => (Written { pixels: s.pixels, patches: 7 * listed(0), ..nothing }, [2, 0, 0], 0),
         Function::GridScore => (Written { means: s.means, ..nothing }, [2, 1, 0], 0),
-        Function::WarpWith => (nothing, [0; 3], s.canonical),
+        Function::WarpWith | Function::WarpRecord => (nothing, [0; 3], accepted(s.canonical)),
         Function::MarkerCenters => (nothing, [0, accepted(8), 0], 0),
         Function::FitFor => (nothing, [0, accepted(13), 0], 0),
         Function::Lengths => (nothing, [11, 0, 0], 0),

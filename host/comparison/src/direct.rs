@@ -28,6 +28,7 @@ pub const FUNCTIONS: &[Function] = &[
     ("bilinear", 300, bilinear_call),
     ("grid_score", 10, |r| picture_call(r, true)),
     ("warp_with", 1, |r| picture_call(r, false)),
+    ("warp_record", 1, record_call),
     ("stamp_fiducials", 1, stamp_call),
     ("candidate_page", 100, pages::call),
     ("read_book", 100, books::call),
@@ -158,6 +159,13 @@ fn picture_call(r: &mut Random, cells: bool) -> Vec<u64> {
         let lens = g::Radial::new(w, h, r.within(-0.2, 0.2));
         words.extend(fit.iter().chain(&[lens.k, lens.cx, lens.cy, lens.norm]).map(|v| v.to_bits()));
     }
+    words
+}
+
+/// A call of `warp_with`, by the patterns of its numbers, and a grade: mostly that of a scored record.
+fn record_call(r: &mut Random) -> Vec<u64> {
+    let mut words = picture_call(r, false);
+    words.push(r.one_of(&[0, 0, 0, 0, 1, 2, 3, 256, 1 << 31, u32::MAX as u64]));
     words
 }
 
@@ -296,6 +304,15 @@ pub fn check(name: &str, w: &[u64]) -> Result<(), String> {
             let mut card = vec![0; 3 * f.width * f.height];
             numbered(ffi::warp_with(&img.data, img.w, img.h, f, &x[7..20], &mut card), 0)?;
             bytes(&card, &g::warp_with(&img, &o::spec(f), &o::fit(&x[7..])).data)
+        }
+        "warp_record" => {
+            let (img, f, grade) = (picture(w[0], w[1], w[2]), frame(&w[3..]), w[20] as u32);
+            let before: Vec<u8> = (0..3 * f.width * f.height).map(|i| i as u8).collect();
+            let mut card = before.clone();
+            let n = ffi::warp_record(&img.data, img.w, img.h, f, grade, &w[7..20], &mut card);
+            numbered(n, if grade == 0 { 0 } else { 16 })?;
+            let laid = g::warp_with(&img, &o::spec(f), &o::fit(&x[7..])).data;
+            bytes(&card, if grade == 0 { &laid } else { &before })
         }
         "stamp_fiducials" => {
             let (mut img, f) = (picture(w[0], w[1], w[2]), frame(&w[3..]));

@@ -71,11 +71,21 @@ pub struct Flat {
 
 /// What the original does with a capture inside the limits.
 pub struct Answer {
-    /// 0 accepted, else 5 to 10.
+    /// 0 accepted, else 5 to 10: that of `fit_geometry`.
     pub number: u32,
     pub look: Option<Look>,
     pub found: Option<Found>,
     pub flat: Option<Flat>,
+}
+
+impl Answer {
+    /// The number of `rectify`: 16 where the original lays a card by a fit without a score.
+    pub fn rectify_number(&self) -> u32 {
+        match &self.flat {
+            Some(Flat { grade: Grade::Outside(_) | Grade::TooFew, .. }) => 16,
+            _ => self.number,
+        }
+    }
 }
 
 pub fn records(blobs: &[inner::Blob]) -> Vec<[u64; 7]> {

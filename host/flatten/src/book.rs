@@ -29,7 +29,7 @@ impl Record {
         Record { panel, camera, grade: grade as u32, numbers: std::array::from_fn(|i| bits(fit.numbers()[i])) }
     }
 
-    /// The fit, as for `Workspace::warp_with`.
+    /// The fit, whatever its grade. `Workspace::warp_record` lays a card under it only where it was scored.
     pub fn fit(&self) -> Fit {
         Fit::new(self.numbers.map(f64::from_bits))
     }

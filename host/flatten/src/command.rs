@@ -19,23 +19,28 @@ standard error.
   -o FILE                        write the card to FILE; where there is none FILE stays as it was
   --frame W,H,CELL,MARGIN        the card's description, default 848,636,10,106
   --report FILE                  write what was found as JSON, also where the capture is refused
-  --overlay FILE                 write the capture with candidates, corners and grid drawn in (P6), also after a refusal by 7 to 10
+  --overlay FILE                 write the capture with candidates, corners and grid drawn in (P6); after a refusal by 7 to 10 with the
+                                 candidates alone, and after 16 with a cross at the first cell outside the picture
   --page FILE                    write the candidates as text, a line of 36 columns each: rank, centre x, centre y, size, score; also
-                                 after a refusal by 7 to 10
+                                 after a refusal by 7 to 10 or 16
   --strict                       do not write a doubtful card
   --help, --version
 
 A card is doubtful where its score is below 60 and its phase, how far its edges lie off the cell borders, above 0.25 of a cell:
 it was laid by the rules, but perhaps by a wrong ring, or the wrong way up. A card that is not doubtful may still be upside down.
 
-Exit status: 0 accepted; 1 refused, with one line `refused N: why; what to do` on standard error; 2 bad usage, a bad picture, a
-file that cannot be read or written, or more than 9999 candidates for a page; 3 doubtful, with --strict.
+Exit status: 0 accepted; 1 refused, with a line `refused N: why; what to do` on standard error, and after 16 one more that says how
+many cells are sampled or which is outside; 2 bad usage, a bad picture, a file that cannot be read or written, or more than 9999
+candidates for a page; 3 doubtful, with --strict.
 ";
 
 pub const ACCEPTED: u8 = 0;
 pub const REFUSED: u8 = 1;
 pub const FAILED: u8 = 2;
 pub const DOUBTFUL: u8 = 3;
+
+/// The refusal of a fit without a score.
+const UNSCORED: u32 = 16;
 
 /// What is said on standard error. A line that cannot be written there loses nothing else: it is remembered for the exit status.
 struct Messages {
@@ -109,25 +114,22 @@ fn conversion(format: p6::Format, input: Option<&Path>) -> String {
     }
 }
 
-/// Score and phase always, and what to look for where they make the card doubtful.
-fn describe(messages: &mut Messages, workspace: &Workspace, card: &Rectified, o: &Options) {
-    let unsupported = "the lens term is not supported by the picture";
-    let (score, warning) = match card.grade {
-        Grade::Score(score) => (format!("score {score:.1}"), None),
-        Grade::TooFew => {
-            let cells = workspace.sampled_cells();
-            ("no score".into(), Some(format!("{unsupported}: too few cells ({cells} are sampled, 16 are needed)")))
-        }
+/// Which cells leave a fit without a score.
+fn unscored(workspace: &Workspace) -> Option<String> {
+    match workspace.grade()? {
+        Grade::Score(_) => None,
+        Grade::TooFew => Some(format!("too few cells: {} are sampled, 16 are needed", workspace.sampled_cells())),
         Grade::Outside(cell) => {
             let cols = workspace.frame().grid().map_or(1, |(cols, _)| cols.max(1));
             let (row, column) = (cell / cols, cell % cols);
-            ("no score".into(), Some(format!("{unsupported}: cell {cell} is the first outside it (row {row}, column {column}, from 0)")))
+            Some(format!("cell {cell} is the first outside the picture (row {row}, column {column}, from 0)"))
         }
-    };
-    messages.say(&format!("flatten: {score}, phase {:.3}", card.phase));
-    if let Some(warning) = warning {
-        messages.say(&format!("flatten: warning: {warning}"));
     }
+}
+
+/// Score and phase always, and what to look for where they make the card doubtful.
+fn describe(messages: &mut Messages, card: &Rectified, o: &Options) {
+    messages.say(&format!("flatten: score {:.1}, phase {:.3}", card.score, card.phase));
     if card.doubtful() {
         let overlay = o.overlay.as_ref().map_or("the overlay (--overlay FILE)".into(), |path| path.display().to_string());
         messages
@@ -204,8 +206,14 @@ fn flatten(o: &Options, messages: &mut Messages) -> Result<u8, String> {
         results.file(path, report::report(&about, Some(&workspace), &answer).as_bytes());
     }
     if let Some(path) = o.overlay.as_ref().filter(|_| workspace.looked()) {
+        let fit = match &answer {
+            Ok(card) => Some(card.fitted()),
+            // The fit that was not taken: the one that has cells outside, or too few.
+            Err(refusal) if refusal.number() == UNSCORED => workspace.fit_geometry(&capture.data).ok(),
+            Err(_) => None,
+        };
         let mut drawn = capture.data;
-        overlay::draw(&mut drawn, &workspace, answer.as_ref().ok());
+        overlay::draw(&mut drawn, &workspace, fit.as_ref());
         results.file(path, &p6::bytes(capture.w, capture.h, &drawn));
     }
     if let Some(path) = o.page.as_ref().filter(|_| workspace.looked()) {
@@ -213,12 +221,18 @@ fn flatten(o: &Options, messages: &mut Messages) -> Result<u8, String> {
     }
     Ok(match answer {
         Ok(card) => put_card(o, &mut results, &workspace, &card),
-        Err(refusal) => results.refused(refusal),
+        Err(refusal) => {
+            let status = results.refused(refusal);
+            if let Some(cells) = unscored(&workspace) {
+                results.messages.say(&format!("flatten: {cells}"));
+            }
+            status
+        }
     })
 }
 
 fn put_card(o: &Options, results: &mut Results, workspace: &Workspace, card: &Rectified) -> u8 {
-    describe(results.messages, workspace, card, o);
+    describe(results.messages, card, o);
     if o.strict && card.doubtful() {
         results.messages.say("flatten: the doubtful card is not written (--strict)");
         return results.status(DOUBTFUL);

@@ -108,6 +108,11 @@ mod c {
             width: usize, height: usize, cell: usize, margin: usize,
             fit: *const f64, fit_len: usize, canonical: *mut u8, canonical_len: usize,
         ) -> u32;
+        pub fn tablet_warp_record(
+            capture: *const u8, capture_len: usize, w: usize, h: usize,
+            width: usize, height: usize, cell: usize, margin: usize,
+            grade: u32, numbers: *const u64, numbers_len: usize, canonical: *mut u8, canonical_len: usize,
+        ) -> u32;
         pub fn tablet_stamp_fiducials(
             image: *mut u8, image_len: usize, w: usize, h: usize,
             width: usize, height: usize, cell: usize, margin: usize,
@@ -280,6 +285,17 @@ pub fn warp_with(capture: &[u8], w: usize, h: usize, f: Frame, fit: &[f64], cano
         c::tablet_warp_with(
             capture.as_ptr(), capture.len(), w, h, f.width, f.height, f.cell, f.margin,
             fit.as_ptr(), fit.len(), canonical.as_mut_ptr(), canonical.len(),
+        )
+    }
+}
+
+#[rustfmt::skip]
+pub fn warp_record(capture: &[u8], w: usize, h: usize, f: Frame, grade: u32, numbers: &[u64], canonical: &mut [u8]) -> u32 {
+    // SAFETY: each slice goes with its own length; the card is borrowed apart from capture and numbers.
+    unsafe {
+        c::tablet_warp_record(
+            capture.as_ptr(), capture.len(), w, h, f.width, f.height, f.cell, f.margin,
+            grade, numbers.as_ptr(), numbers.len(), canonical.as_mut_ptr(), canonical.len(),
         )
     }
 }

@@ -5,7 +5,7 @@
 //! # let photograph = vec![0u8; 3 * 1280 * 720];
 //! let mut workspace = Workspace::new(1280, 720, Frame::BENCH).unwrap(); // once
 //! match workspace.rectify(&photograph) {
-//!     Ok(card) if card.doubtful() => println!("look at it: score {:?}, phase {}", card.score(), card.phase),
+//!     Ok(card) if card.doubtful() => println!("look at it: score {}, phase {}", card.score, card.phase),
 //!     Ok(card) => println!("lens term {}", card.fit.k()),
 //!     Err(refusal) => eprintln!("{refusal}"),
 //! }

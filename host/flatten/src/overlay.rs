@@ -1,7 +1,7 @@
 //! The capture with what was found drawn in: candidates, the four corners with their names, the fitted grid, and an arrow to the
 //! card's upper side.
 
-use crate::{Candidate, Grade, Rectified, Workspace};
+use crate::{Candidate, Fitted, Grade, Workspace};
 
 type Colour = [u8; 3];
 type Position = [f64; 2];
@@ -97,8 +97,8 @@ impl Canvas<'_> {
     }
 }
 
-/// Draws into a copy of the workspace's last capture.
-pub fn draw(data: &mut [u8], workspace: &Workspace, card: Option<&Rectified>) {
+/// Draws into a copy of the workspace's last capture; grid, arrow and corners where there is a fit.
+pub fn draw(data: &mut [u8], workspace: &Workspace, card: Option<&Fitted>) {
     let mut canvas = Canvas { w: workspace.width(), h: workspace.height(), data };
     if let Some(card) = card {
         grid(&mut canvas, workspace, card);
@@ -114,7 +114,7 @@ pub fn draw(data: &mut [u8], workspace: &Workspace, card: Option<&Rectified>) {
 }
 
 /// A red square about each corner's ring, and its name beside it, towards the other end of the card's upper or lower side.
-fn corners(canvas: &mut Canvas, workspace: &Workspace, card: &Rectified) {
+fn corners(canvas: &mut Canvas, workspace: &Workspace, card: &Fitted) {
     let found: Vec<Candidate> = card.corners.iter().filter_map(|&place| workspace.candidates().find(|c| c.place == place)).collect();
     for (i, c) in found.iter().enumerate() {
         for wider in [3.0, 4.0] {
@@ -132,7 +132,7 @@ fn corners(canvas: &mut Canvas, workspace: &Workspace, card: &Rectified) {
 }
 
 /// From the card's middle towards its upper side.
-fn arrow(canvas: &mut Canvas, workspace: &Workspace, card: &Rectified) {
+fn arrow(canvas: &mut Canvas, workspace: &Workspace, card: &Fitted) {
     let frame = workspace.frame();
     let (w, h) = (frame.width as f64, frame.height as f64);
     let at = |x: f64, y: f64| card.fit.map(w * 0.5 + h * x, h * y);
@@ -144,7 +144,7 @@ fn arrow(canvas: &mut Canvas, workspace: &Workspace, card: &Rectified) {
     }
 }
 
-fn grid(canvas: &mut Canvas, workspace: &Workspace, card: &Rectified) {
+fn grid(canvas: &mut Canvas, workspace: &Workspace, card: &Fitted) {
     let frame = workspace.frame();
     let Ok((cols, rows)) = frame.grid() else { return };
     let at = |n: usize| (frame.margin + n * frame.cell) as f64;

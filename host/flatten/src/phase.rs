@@ -19,9 +19,9 @@ pub const PHASE_LIMIT: f64 = 0.25;
 const TILES: (usize, usize) = (4, 3);
 const TILE_CELLS: usize = 4;
 
-/// Whether a card is not to be trusted by itself. An unscored one counts as below the score's limit.
-pub fn doubtful(score: Option<f64>, phase: f64) -> bool {
-    score.is_none_or(|s| s < SCORE_LIMIT) && phase > PHASE_LIMIT
+/// Whether a card is not to be trusted by itself.
+pub fn doubtful(score: f64, phase: f64) -> bool {
+    score < SCORE_LIMIT && phase > PHASE_LIMIT
 }
 
 /// The largest phase of any tile in either direction: 0 where every edge is on a cell border, 0.5 at most (mid-cell). A tile
@@ -166,7 +166,7 @@ mod tests {
 
     #[test]
     fn both_limits_count() {
-        assert!(doubtful(Some(59.9), 0.26) && doubtful(None, 0.26) && doubtful(Some(f64::NEG_INFINITY), 0.5));
-        assert!(!doubtful(Some(60.0), 0.5) && !doubtful(Some(1.7), 0.25) && !doubtful(None, 0.25));
+        assert!(doubtful(59.9, 0.26) && doubtful(0.0, 0.5));
+        assert!(!doubtful(60.0, 0.5) && !doubtful(1.7, 0.25));
     }
 }

@@ -35,16 +35,17 @@ impl Refusal {
         self.0
     }
 
-    /// By 7 to 10 the picture was looked at, and patches and candidates are there to be read. Other numbers say nothing of a look.
+    /// By 7 to 10, and by 16 of a rectification, the picture was looked at, and patches and candidates are there to be read. Other
+    /// numbers say nothing of a look.
     pub fn looked(self) -> bool {
-        (7..=10).contains(&self.0)
+        matches!(self.0, 7..=10 | 16)
     }
 
     pub fn responsible(self) -> Responsible {
         match self.0 {
             1 | 5 => Responsible::Frame,
             2..=4 | 12 => Responsible::Host,
-            6..=9 => Responsible::Photographer,
+            6..=9 | 16 => Responsible::Photographer,
             14 | 15 => Responsible::Book,
             _ => Responsible::Points,
         }
@@ -68,6 +69,7 @@ impl Refusal {
             13 => "there are more than 9999 candidates, or a number of theirs is negative, not finite or too wide for its columns",
             14 => "the book's header, its length, a grade or a zero field is wrong, or it would be longer than 4294967295 bytes",
             15 => "the book's keys, panel and then camera, do not rise",
+            16 => "the cells gave no score for the lens: fewer than 16 are sampled, or one lies outside the picture",
             _ => "the library gives a number that this wrapper does not know",
         }
     }
@@ -99,6 +101,10 @@ impl Refusal {
             }
             14 => "hand in a book that is whole and unchanged, or at most 35791393 records with grades 0, 1 or 2",
             15 => "sort the records by panel and then camera, and keep one of each key",
+            16 => {
+                "photograph again with the whole card in the picture; a card with fewer than 16 sampled cells cannot be laid flat \
+                  from a photograph alone"
+            }
             _ => "bring library and wrapper to the same version",
         }
     }
@@ -117,23 +123,23 @@ mod tests {
     use super::*;
 
     #[test]
-    fn only_7_to_10_tell_of_a_look() {
+    fn only_7_to_10_and_16_tell_of_a_look() {
         let looked: Vec<u32> = (1..=20).filter(|&number| Refusal(number).looked()).collect();
-        assert_eq!(looked, [7, 8, 9, 10]);
+        assert_eq!(looked, [7, 8, 9, 10, 16]);
     }
 
     #[test]
     fn each_number_has_words_and_somebody() {
-        let all: Vec<Refusal> = (1..=15).map(Refusal).collect();
+        let all: Vec<Refusal> = (1..=16).map(Refusal).collect();
         use Responsible::*;
         let menders: [(_, &[u32]); 5] =
-            [(Frame, &[1, 5]), (Host, &[2, 3, 4, 12]), (Photographer, &[6, 7, 8, 9]), (Points, &[10, 11, 13]), (Book, &[14, 15])];
+            [(Frame, &[1, 5]), (Host, &[2, 3, 4, 12]), (Photographer, &[6, 7, 8, 9, 16]), (Points, &[10, 11, 13]), (Book, &[14, 15])];
         for (who, numbers) in menders {
             let theirs: Vec<u32> = all.iter().filter(|r| r.responsible() == who).map(|r| r.number()).collect();
             assert_eq!(theirs, numbers, "{who:?}");
         }
         for words in [Refusal::why, Refusal::remedy] {
-            let unknown = words(Refusal(16));
+            let unknown = words(Refusal(17));
             for (i, &r) in all.iter().enumerate() {
                 assert!(words(r) != unknown && all[..i].iter().all(|&other| words(other) != words(r)), "{r}");
             }

@@ -56,7 +56,7 @@ pub fn report(about: &About, workspace: Option<&Workspace>, answer: &Result<Rect
     let number = answer.err().map_or(0, Refusal::number);
     let looked = workspace.filter(|w| w.looked());
     let of_look = |f: &dyn Fn(&Workspace) -> String| looked.map_or(NULL.into(), f);
-    let of_search = |f: &dyn Fn(&Workspace) -> String| looked.filter(|_| matches!(number, 0 | 10)).map_or(NULL.into(), f);
+    let of_search = |f: &dyn Fn(&Workspace) -> String| looked.filter(|_| matches!(number, 0 | 10 | 16)).map_or(NULL.into(), f);
     let of_fit = |f: &dyn Fn(&Rectified) -> String| answer.as_ref().map_or(NULL.into(), f);
     let candidates = |w: &Workspace| {
         let each = w.candidates().map(|c| {
@@ -72,7 +72,7 @@ pub fn report(about: &About, workspace: Option<&Workspace>, answer: &Result<Rect
         ("sides", format!("[{}, {}]", about.sides.0, about.sides.1)),
         ("frame", format!("[{width}, {height}, {cell}, {margin}]")),
         ("refusal", number.to_string()),
-        ("score", of_fit(&|r| r.grade.score().map_or(NULL.into(), float))),
+        ("score", of_fit(&|r| float(r.score))),
         ("phase", of_fit(&|r| float(r.phase))),
         ("doubtful", of_fit(&|r| r.doubtful().to_string())),
         ("patches", of_look(&|w| w.patches().len().to_string())),
@@ -84,7 +84,7 @@ pub fn report(about: &About, workspace: Option<&Workspace>, answer: &Result<Rect
         ("cx", of_fit(&|r| float(r.fit.cx()))),
         ("cy", of_fit(&|r| float(r.fit.cy()))),
         ("norm", of_fit(&|r| float(r.fit.norm()))),
-        ("grade", of_fit(&|r| grade(r.grade))),
+        ("grade", of_look(&|w| w.grade().map_or(NULL.into(), grade))),
         ("trials", of_search(&|w| w.trials().0.to_string())),
         ("homographies", of_search(&|w| w.trials().1.to_string())),
     ];

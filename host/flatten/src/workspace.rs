@@ -1,5 +1,6 @@
 //! Work areas that are made once and lent to each call.
 
+use crate::book::Record;
 use crate::{ffi, phase};
 use crate::{Frame, Refusal};
 
@@ -58,17 +59,7 @@ pub enum Grade {
     TooFew,
 }
 
-impl Grade {
-    /// None where unscored.
-    pub fn score(self) -> Option<f64> {
-        match self {
-            Grade::Score(score) => Some(score),
-            Grade::Outside(_) | Grade::TooFew => None,
-        }
-    }
-}
-
-/// The fit of a capture.
+/// The fit of a capture; unscored ones too.
 #[derive(Clone, Copy, Debug)]
 pub struct Fitted {
     pub fit: Fit,
@@ -79,11 +70,11 @@ pub struct Fitted {
     pub homographies: usize,
 }
 
-/// An accepted rectification; the card itself is `Workspace::canonical`.
+/// An accepted rectification, which always has a score; the card itself is `Workspace::canonical`.
 #[derive(Clone, Copy, Debug)]
 pub struct Rectified {
     pub fit: Fit,
-    pub grade: Grade,
+    pub score: f64,
     /// How far the card's edges lie off its cell borders: `phase::phase`.
     pub phase: f64,
     /// The corners' patches by their places in the patch list: TL, TR, BR, BL.
@@ -93,14 +84,15 @@ pub struct Rectified {
 }
 
 impl Rectified {
-    /// None where unscored.
-    pub fn score(&self) -> Option<f64> {
-        self.grade.score()
-    }
-
     /// Whether a person should look at the capture before the card is used: `phase::doubtful`.
     pub fn doubtful(&self) -> bool {
-        phase::doubtful(self.score(), self.phase)
+        phase::doubtful(self.score, self.phase)
+    }
+
+    /// What `fit_geometry` gives for the same capture.
+    pub fn fitted(&self) -> Fitted {
+        let Rectified { fit, score, corners, trials, homographies, .. } = *self;
+        Fitted { fit, grade: Grade::Score(score), corners, trials, homographies }
     }
 }
 
@@ -211,24 +203,22 @@ impl Workspace {
         fit.copy_from_slice(&self.fit[..ffi::FIT_LEN]);
         Ok(Fitted {
             fit: Fit(fit),
-            grade: match self.counts[ffi::GRADE] {
-                ffi::SCORED => Grade::Score(self.fit[ffi::FIT_LEN]),
-                ffi::OUTSIDE => Grade::Outside(count(ffi::OUTSIDE_CELL)),
-                _ => Grade::TooFew,
-            },
+            grade: self.grade().expect("an accepted fit has a grade"),
             corners: [0, 1, 2, 3].map(|i| count(ffi::PLACES + i)),
             trials: count(ffi::TRIALS),
             homographies: count(ffi::HOMOGRAPHIES),
         })
     }
 
-    /// Lays a capture flat. On acceptance the card is in `canonical`; on a refusal `canonical` is as it was.
+    /// Lays a capture flat. On acceptance the card is in `canonical`; on a refusal `canonical` is as it was. Refused by 16, `grade`
+    /// tells why the kept fit has no score.
     pub fn rectify(&mut self, capture: &[u8]) -> Result<Rectified, Refusal> {
         let (w, h, frame) = (self.w, self.h, self.frame);
         let (mut areas, means, canonical, counts, fit) = self.lend();
         let number = ffi::rectify(capture, w, h, frame, &mut areas, means, canonical, counts, fit);
-        let Fitted { fit, grade, corners, trials, homographies } = self.fitted(number)?;
-        Ok(Rectified { fit, grade, phase: phase::phase(&self.canonical, frame), corners, trials, homographies })
+        let Fitted { fit, corners, trials, homographies, .. } = self.fitted(number)?;
+        let (score, phase) = (self.fit[ffi::FIT_LEN], phase::phase(&self.canonical, frame));
+        Ok(Rectified { fit, score, phase, corners, trials, homographies })
     }
 
     /// The fit of a capture alone; `canonical` is as it was.
@@ -245,6 +235,12 @@ impl Workspace {
         Refusal::check(ffi::warp_with(capture, self.w, self.h, self.frame, fit.numbers(), &mut self.canonical))
     }
 
+    /// Lays a capture flat under the fit that a book's record keeps, as `warp_with`. Refused by 16 where that fit was not scored.
+    pub fn warp_record(&mut self, capture: &[u8], record: &Record) -> Result<(), Refusal> {
+        let (w, h, frame) = (self.w, self.h, self.frame);
+        Refusal::check(ffi::warp_record(capture, w, h, frame, record.grade, &record.numbers, &mut self.canonical))
+    }
+
     /// The patches of a mask of the capture's sides, one byte a pixel, any nonzero one dark: in `patches`, and there are no
     /// candidates then.
     pub fn label_blobs(&mut self, mask: &[u8]) -> Result<(), Refusal> {
@@ -253,6 +249,7 @@ impl Workspace {
         self.last = Some(number);
         Refusal::check(number)?;
         self.counts = [0; ffi::COUNTS_LEN];
+        self.counts[ffi::GRADE] = ffi::NO_GRADE;
         (self.counts[ffi::PATCHES], self.counts[ffi::WAITED]) = (found[0], found[1]);
         Ok(())
     }
@@ -262,7 +259,7 @@ impl Workspace {
         &self.canonical
     }
 
-    /// The last call looked at its picture: it was accepted, or refused by 7 to 10.
+    /// The last call looked at its picture: it was accepted, or refused by 7 to 10 or 16.
     pub fn looked(&self) -> bool {
         self.last.is_some_and(|number| Refusal::check(number).err().is_none_or(Refusal::looked))
     }
@@ -312,7 +309,17 @@ impl Workspace {
         self.count(ffi::WAITED)
     }
 
-    /// Trials tried and homographies found by the last call where it was accepted or refused by 10; else 0.
+    /// The grade of the trial that the last call kept: where it was accepted, or refused by 16.
+    pub fn grade(&self) -> Option<Grade> {
+        match (self.looked(), self.counts[ffi::GRADE]) {
+            (true, ffi::SCORED) => Some(Grade::Score(self.fit[ffi::FIT_LEN])),
+            (true, ffi::OUTSIDE) => Some(Grade::Outside(self.count(ffi::OUTSIDE_CELL))),
+            (true, ffi::TOO_FEW) => Some(Grade::TooFew),
+            _ => None,
+        }
+    }
+
+    /// Trials tried and homographies found by the last call where it was accepted or refused by 10 or 16; else 0.
     pub fn trials(&self) -> (usize, usize) {
         (self.count(ffi::TRIALS), self.count(ffi::HOMOGRAPHIES))
     }

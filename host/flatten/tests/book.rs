@@ -190,12 +190,21 @@ fn a_card_by_a_kept_fit() {
     let frame: Frame = FRAME.parse().unwrap();
     let (mut found, mut kept) = (Workspace::new(192, 192, frame).unwrap(), Workspace::new(192, 192, frame).unwrap());
     let rectified = found.rectify(&card(frame)).unwrap();
-    let book = Book { records: vec![Record::of(4, 2, rectified.grade, &rectified.fit)] };
+    let book = Book { records: vec![Record::of(4, 2, Grade::Score(rectified.score), &rectified.fit)] };
     let read = Book::read(&book.to_bytes().unwrap()).unwrap().records[0];
     assert_eq!((read.panel, read.camera, read.grade), (4, 2, 0));
     assert_eq!(read.fit().numbers(), rectified.fit.numbers());
-    kept.warp_with(&card(frame), &read.fit()).unwrap();
+    kept.warp_record(&card(frame), &read).unwrap();
     assert_eq!(kept.canonical(), found.canonical());
+
+    // Under any other grade it lays nothing, and what is wrong with the capture goes first.
+    for grade in [1, 2, 3, u32::MAX] {
+        let unscored = Record { grade, ..read };
+        let refusal = kept.warp_record(&vec![7; 3 * 192 * 192], &unscored).unwrap_err();
+        assert_eq!((refusal.number(), refusal.responsible()), (16, Responsible::Photographer));
+        assert_eq!(kept.warp_record(&[], &unscored).unwrap_err().number(), 2);
+        assert_eq!(kept.canonical(), found.canonical());
+    }
 }
 
 #[test]

@@ -8,7 +8,7 @@ use std::fs;
 fn said() -> String {
     let mut ws = flatten::Workspace::new(192, 192, FRAME.parse().unwrap()).unwrap();
     let r = ws.rectify(&card(FRAME.parse().unwrap())).unwrap();
-    format!("flatten: score {:.1}, phase 0.000\n", r.score().unwrap())
+    format!("flatten: score {:.1}, phase 0.000\n", r.score)
 }
 
 #[test]
@@ -80,20 +80,29 @@ fn a_refusal_before_the_look_has_no_overlay() {
     }
 }
 
+/// The card's file stays; report, page and overlay are written.
 #[test]
-fn too_few_cells_are_warned_of() {
-    let frame = "224,224,28,56";
-    let out = flatten(&["--frame", frame], &p6(224, 224, &card(frame.parse().unwrap())));
-    assert_eq!(out.status.code(), Some(0), "{}", text(&out.stderr));
-    let mut lines = text(&out.stderr).lines();
-    assert!(lines.next().unwrap().starts_with("flatten: no score, phase 0."));
-    let warning = "flatten: warning: the lens term is not supported by the picture: too few cells (4 are sampled, 16 are needed)";
-    assert_eq!(lines.next(), Some(warning));
+fn too_few_cells_are_refused() {
+    let (folder, frame) = (Folder::new("few"), "224,224,28,56");
+    folder.put("card.ppm", "as it was");
+    folder.put("in.ppm", p6(224, 224, &card(frame.parse().unwrap())));
+    let out = folder.sh("$F --frame 224,224,28,56 -o card.ppm --report r --overlay o --page p in.ppm");
+    assert_eq!((out.status.code(), text(&out.stdout)), (Some(1), ""));
+    let lines: Vec<_> = text(&out.stderr).lines().collect();
+    assert!(lines[0].starts_with("refused 16: the cells gave no score for the lens: fewer than 16 are sampled, "), "{lines:?}");
+    assert_eq!(lines[1..], ["flatten: too few cells: 4 are sampled, 16 are needed"]);
+    assert_eq!(folder.text("card.ppm"), "as it was");
+    let json = folder.text("r");
+    assert!(json.contains("\"refusal\": 16, \"score\": null, \"phase\": null, \"doubtful\": null, \"patches\": "), "{json}");
+    assert!(json.contains("\"corners\": null, \"matrix\": null, \"k\": null, "), "{json}");
+    assert!(json.ends_with("\"grade\": {\"too_few\": true}, \"trials\": 78, \"homographies\": 78}\n"), "{json}");
+    assert_eq!(folder.text("p").lines().count(), 4);
+    assert_ne!(folder.get("o"), folder.get("in.ppm"));
 }
 
 /// By row, then column; the number counts all cells, of which the second card has eleven in a row.
 #[test]
-fn the_first_cell_outside_is_warned_of_and_reported() {
+fn the_first_cell_outside_is_named_and_reported() {
     let folder = Folder::new("outside");
     for (frame, w, h, share, cell, place) in
         [("366,394,31,56", 183, 197, 1.04, 3, "row 0, column 3"), ("462,310,31,56", 231, 155, 1.07, 33, "row 3, column 0")]
@@ -102,9 +111,11 @@ fn the_first_cell_outside_is_warned_of_and_reported() {
             &["--frame", frame, "--report", path(&folder.file("r"))],
             &p6(w, h, &past_the_picture(frame.parse().unwrap(), w, h, share)),
         );
-        assert_eq!(out.status.code(), Some(0), "{}", text(&out.stderr));
-        let warning = format!("the lens term is not supported by the picture: cell {cell} is the first outside it ({place}, from 0)");
-        assert!(text(&out.stderr).lines().any(|line| line == format!("flatten: warning: {warning}")), "{}", text(&out.stderr));
+        assert_eq!((out.status.code(), text(&out.stdout)), (Some(1), ""));
+        let mut lines = text(&out.stderr).lines();
+        assert!(lines.next().unwrap().starts_with("refused 16: "), "{}", text(&out.stderr));
+        let named = format!("flatten: cell {cell} is the first outside the picture ({place}, from 0)");
+        assert_eq!((lines.next(), lines.next()), (Some(named.as_str()), None));
         assert!(folder.text("r").contains(&format!("{{\"outside\": {cell}}}")), "{}", folder.text("r"));
     }
 }

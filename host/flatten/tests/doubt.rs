@@ -104,7 +104,7 @@ fn turned_and_mirrored_cards_are_doubtful() {
         let r = ws.rectify(&wrong.data).unwrap();
         assert!(r.doubtful());
         assert_eq!(folder.get("p.txt"), ws.page().unwrap());
-        let fields = format!("\"refusal\": 0, \"score\": {:?}, \"phase\": {:?}, \"doubtful\": true, ", r.score().unwrap(), r.phase);
+        let fields = format!("\"refusal\": 0, \"score\": {:?}, \"phase\": {:?}, \"doubtful\": true, ", r.score, r.phase);
         assert!(folder.text("r.json").contains(&fields), "{}", folder.text("r.json"));
     }
     assert_eq!(folder.names(), ["card.ppm", "in.ppm", "p.txt", "r.json", "v.ppm"]);

@@ -1,13 +1,13 @@
 //! What is drawn into the capture.
 
 mod common;
-use common::past_the_picture;
-use flatten::{overlay, Frame, Grade, Rectified, Workspace};
+use common::*;
+use flatten::{overlay, Fitted, Frame, Grade, Workspace};
 
 const CROSS: [u8; 3] = [255, 160, 0];
 
 /// Columns and rows of the sampled cells with a tap outside the picture, by row, then column.
-fn cells_outside(ws: &Workspace, card: &Rectified) -> Vec<[usize; 2]> {
+fn cells_outside(ws: &Workspace, card: &Fitted) -> Vec<[usize; 2]> {
     let f = ws.frame();
     let (cols, rows) = f.grid().unwrap();
     let sampled = (0..rows).step_by(3).flat_map(|row| (0..cols).step_by(3).map(move |column| [column, row]));
@@ -25,7 +25,7 @@ fn away([x, y]: [f64; 2], [a, b]: [[f64; 2]; 2]) -> f64 {
 
 /// The cross stands at the first sampled cell, by row, then column, that has a tap outside, and nowhere else. These cards have
 /// too few sampled cells to score by: the first lens term tried is kept, and puts cells outside. In all but the third the first
-/// cell by column is another one, and so is the last.
+/// cell by column is another one, and so is the last. The command draws the same, and no card.
 #[test]
 fn the_cross_stands_at_the_first_cell_outside() {
     for (frame, w, h, share, first) in [
@@ -36,8 +36,8 @@ fn the_cross_stands_at_the_first_cell_outside() {
     ] {
         let f: Frame = frame.parse().unwrap();
         let mut ws = Workspace::new(w, h, f).unwrap();
-        let mut drawn = past_the_picture(f, w, h, share);
-        let card = ws.rectify(&drawn).unwrap();
+        let photograph = past_the_picture(f, w, h, share);
+        let card = ws.fit_geometry(&photograph).unwrap();
         let cells = cells_outside(&ws, &card);
         assert_eq!(cells[0], first, "{frame}: {cells:?}");
         assert_eq!(cells.len() == 1, first == [0, 3], "{frame}: {cells:?}");
@@ -45,6 +45,7 @@ fn the_cross_stands_at_the_first_cell_outside() {
         let ([column, row], (cols, _)) = (first, f.grid().unwrap());
         assert_eq!(card.grade, Grade::Outside(row * cols + column), "{frame}");
 
+        let mut drawn = photograph.clone();
         overlay::draw(&mut drawn, &ws, Some(&card));
         let corner = |right: usize, down: usize| {
             let at = |n: usize| (f.margin + f.cell * n) as f64;
@@ -54,5 +55,10 @@ fn the_cross_stands_at_the_first_cell_outside() {
         let places = (0..w * h).filter(|&i| drawn[3 * i..3 * i + 3] == CROSS).map(|i| [(i % w) as f64 + 0.5, (i / w) as f64 + 0.5]);
         let [on, off]: [Vec<_>; 2] = places.partition(|&p| lines.iter().any(|&line| away(p, line) < 1.0)).into();
         assert!(on.len() > 10 && off.is_empty(), "{frame}: {} pixels on the cross, and off it {off:?}", on.len());
+
+        let folder = Folder::new("cross");
+        let out = flatten(&["--frame", frame, "--overlay", path(&folder.file("o"))], &p6(w, h, &photograph));
+        assert_eq!((out.status.code(), out.stdout.len()), (Some(1), 0), "{}", text(&out.stderr));
+        assert!(folder.get("o") == p6(w, h, &drawn), "{frame}: the command draws something else");
     }
 }

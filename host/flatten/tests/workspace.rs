@@ -16,7 +16,7 @@ fn one_workspace_serves_many_captures() {
     assert!(!ws.looked() && ws.patches().len() == 0);
     let first = ws.rectify(&card()).unwrap();
     let flat = ws.canonical().to_vec();
-    assert!(matches!(first.grade, Grade::Score(_)));
+    assert_eq!(ws.grade(), Some(Grade::Score(first.score)));
     assert_eq!((first.trials, first.homographies), (78, 78));
     // The corners are candidates, and stand as corners do.
     let at = first.corners.map(|place| ws.candidates().find(|c| c.place == place).unwrap());
@@ -41,6 +41,30 @@ fn one_workspace_serves_many_captures() {
     assert_eq!(ws.canonical(), flat);
 }
 
+/// Four sampled cells: the fit is the original's and has no score, and no card is laid by it.
+#[test]
+fn an_unscored_card_is_refused_with_its_grade() {
+    let frame = Frame { width: 224, height: 224, cell: 28, margin: 56 };
+    let mut data: Vec<u8> = (0..224 * 224).flat_map(|i| [if (i % 224 / 8 + i / 224 / 8) % 2 == 0 { 90 } else { 160 }; 3]).collect();
+    assert_eq!(ffi::stamp_fiducials(&mut data, 224, 224, frame), 0);
+    let mut ws = Workspace::new(224, 224, frame).unwrap();
+    let fitted = ws.fit_geometry(&data).unwrap();
+    assert_eq!((fitted.grade, fitted.fit.k()), (Grade::TooFew, -0.2));
+    ws.warp_with(&data, &fitted.fit).unwrap();
+    let before = ws.canonical().to_vec();
+
+    data[..3 * 224].fill(0);
+    let refusal = ws.rectify(&data).unwrap_err();
+    assert_eq!((refusal.number(), refusal.responsible()), (16, Responsible::Photographer));
+    assert!(ws.looked() && ws.candidates().len() == 4 && ws.patches().len() > 4);
+    assert_eq!((ws.grade(), ws.trials()), (Some(Grade::TooFew), (78, 78)));
+    assert_eq!(ws.canonical(), before);
+
+    // Patches alone have no grade.
+    ws.label_blobs(&[1; 224 * 224]).unwrap();
+    assert_eq!((ws.patches().len(), ws.grade()), (1, None));
+}
+
 /// The fit alone is rectify's, and the card under it is rectify's.
 #[test]
 fn fit_and_warp_apart() {
@@ -48,7 +72,7 @@ fn fit_and_warp_apart() {
     let rectified = whole.rectify(&card()).unwrap();
     let fitted = apart.fit_geometry(&card()).unwrap();
     assert_eq!(fitted.fit.numbers(), rectified.fit.numbers());
-    assert_eq!((fitted.grade, fitted.corners), (rectified.grade, rectified.corners));
+    assert_eq!((fitted.grade, fitted.corners), (Grade::Score(rectified.score), rectified.corners));
     assert_eq!((fitted.trials, fitted.homographies), (78, 78));
     assert_eq!(apart.candidates().len(), 4);
     assert!(apart.canonical().iter().all(|&b| b == 0));

@@ -1,7 +1,7 @@
 //! One capture laid flat, against what was drawn.
 
 use flatten::phase::{doubtful, phase};
-use flatten::{Fit, Frame, Grade, Rectified, Workspace};
+use flatten::{Fit, Frame, Rectified, Workspace};
 use scene::{Cells, Rgb, Scene};
 
 /// What came of a capture.
@@ -15,8 +15,7 @@ pub enum Outcome {
 /// An accepted card.
 #[derive(Clone, Copy, Debug)]
 pub struct Laid {
-    /// None where the fit is unscored.
-    pub score: Option<f64>,
+    pub score: f64,
     pub phase: f64,
     /// The least correlation of the card with a ring's pattern at a marker's place.
     pub ring_pattern: f64,
@@ -39,10 +38,6 @@ impl Laid {
     pub fn doubtful(&self) -> bool {
         doubtful(self.score, self.phase)
     }
-
-    pub fn score(&self) -> f64 {
-        self.score.unwrap_or(f64::NEG_INFINITY)
-    }
 }
 
 fn frame(f: scene::Frame) -> Frame {
@@ -62,10 +57,7 @@ pub fn measure(scene: &Scene, photograph: &[u8]) -> Outcome {
     };
     let card = workspace.canonical();
     Outcome::Accepted(Laid {
-        score: match found.grade {
-            Grade::Score(score) => Some(score),
-            _ => None,
-        },
+        score: found.score,
         phase: phase(card, frame(f)),
         ring_pattern: markers(f).into_iter().map(|m| pattern_at(card, f, m)).fold(1.0, f64::min),
         ring_size: size_off(&workspace, &found, f),

@@ -11,7 +11,7 @@ fn checked(what: &str, scene: &Scene, test: impl Fn(&Laid) -> bool, may_be_refus
     let (good, outcome) = match measure(scene, &scene.take()) {
         Outcome::Refused(number) => (may_be_refused, format!("refused by {number}")),
         Outcome::Accepted(c) => {
-            let (score, error, read) = (score(c.score()), pixels(c.error), percent(c.cells_read, c.cells));
+            let (score, error, read) = (score(c.score), pixels(c.error), percent(c.cells_read, c.cells));
             let doubt = if c.doubtful() { "doubtful" } else { "not doubtful" };
             (test(&c), format!("score {score}, phase {:.2}, {doubt}, error {error}, cells read right {read}", c.phase))
         }
@@ -23,7 +23,7 @@ fn checked(what: &str, scene: &Scene, test: impl Fn(&Laid) -> bool, may_be_refus
 /// Laid right to a quarter of a cell, every cell read right, and neither score, phase nor rings say otherwise.
 fn sound(c: &Laid) -> bool {
     let placed = c.error < c.half_cell / 2.0 && c.cells_read == c.cells;
-    placed && c.score() >= SCORE_LIMIT && c.phase <= PHASE_LIMIT && c.ring_pattern > 0.76 && c.ring_size < 0.05
+    placed && c.score >= SCORE_LIMIT && c.phase <= PHASE_LIMIT && c.ring_pattern > 0.76 && c.ring_size < 0.05
 }
 
 /// Wrong, and said to be doubtful.

@@ -140,7 +140,7 @@ fn block(cards: &[&Laid]) -> String {
         "{}|{}|{}|{}|{}",
         cards.len(),
         pixels(error),
-        range(cards.iter().map(|c| c.score()), score),
+        range(cards.iter().map(|c| c.score), score),
         range(cards.iter().map(|c| c.phase), |v| format!("{v:.2}")),
         RULES[..3].iter().map(flagged).collect::<Vec<_>>().join(" "),
     )
@@ -172,7 +172,7 @@ pub fn print_rules(seen: &[Measured], unseen: &[Measured]) {
     println!("|---|---|---|---|---|---|");
     let line = |name: &str, cards: &[Laid]| {
         let misread = cards.iter().filter(|c| c.cells_read < c.cells).count();
-        let scores = range(cards.iter().map(|c| c.score()), score);
+        let scores = range(cards.iter().map(|c| c.score), score);
         let phases = range(cards.iter().map(|c| c.phase), |v| format!("{v:.2}"));
         let errors = range(cards.iter().map(|c| c.error), pixels);
         println!("| {name} | {} | {scores} | {phases} | {errors} | {misread} |", cards.len());
@@ -194,7 +194,7 @@ fn print_missed(seen: &[Measured]) {
         for t in &m.rows {
             for c in t.laid().filter(|c| c.right() == c.doubtful() && (!c.right() || t.ordinary)) {
                 let card = if c.right() { "right, doubtful" } else { "wrong, not doubtful" };
-                let (error, score, read) = (pixels(c.error), score(c.score()), percent(c.cells_read, c.cells));
+                let (error, score, read) = (pixels(c.error), score(c.score), percent(c.cells_read, c.cells));
                 println!("| {} | {} | {card} | {error} | {score} | {:.2} | {read} |", m.title, t.label, c.phase);
             }
         }
@@ -256,7 +256,7 @@ mod tests {
     /// Rows named 0, 1, ..: `o` and `.` pass, `x` and `X` do not; `o` and `X` are ordinary.
     fn rows(letters: &str) -> Vec<Tally> {
         let laid =
-            Laid { score: Some(99.0), phase: 0.0, ring_pattern: 1.0, ring_size: 0.0, error: 0.0, half_cell: 5.0, cells: 4, cells_read: 4 };
+            Laid { score: 99.0, phase: 0.0, ring_pattern: 1.0, ring_size: 0.0, error: 0.0, half_cell: 5.0, cells: 4, cells_read: 4 };
         let row = |(i, c): (usize, char)| Tally {
             label: i.to_string(),
             ordinary: matches!(c, 'o' | 'X'),

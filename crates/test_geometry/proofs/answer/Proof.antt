@@ -23,8 +23,17 @@ rectify-requires c κs = tt
 answer-requires : tie.Need-answer-requires
 answer-requires c κs = tt
 
+fit-geometry-requires : tie.Need-fit-geometry-requires
+fit-geometry-requires c κs = tt
+
+fitted-requires : tie.Need-fitted-requires
+fitted-requires c κs = tt
+
 returns : tie.Need-returns
 returns c = tt
+
+returns-2 : tie.Need-returns-2
+returns-2 c = tt
 
 pub answer-spec : {M : Type 1} → statement M
 answer-spec =
@@ -36,4 +45,7 @@ answer-spec =
     slice-aggregate-rectify
     rectify-requires
     answer-requires
-    returns)
+    fit-geometry-requires
+    fitted-requires
+    returns
+    returns-2)

@@ -2,7 +2,8 @@
 //!   incident   0.cap: a panel behind a grating, more than 256 patches before the lower right ring's, and the other rings and a
 //!              ring-shaped blob of the payload among the first 256; 1.cap: the same without the lower right ring
 //!   path       three captures: 0.cap accepted (192,192,1,48), 1.cap refused by 7, 2.cap refused by 9
-//!   replay     a sample of every kind, and two whose kept trial has cells outside the picture
+//!   replay     a sample of every kind; two whose kept trial has cells outside the picture, one with too few cells, and one picture
+//!              by a frame with 15 sampled cells and by one with 16
 //!   all        these three in turn: data/ and stdout of the program crate test_geometry
 //!
 //! Each capture is DIR/N.cap: six 64-bit words, little-endian (w, h, and the frame's width, height, cell, margin), then its
@@ -11,12 +12,13 @@
 //!   capture N
 //!   sides W H
 //!   frame WIDTH HEIGHT CELL MARGIN
-//!   refusal NUMBER                     5 and 6 end the block
+//!   refusal NUMBER                     that of rectify: 16 where the fit that it laid the card by has no score; 5 and 6 end the block
 //!   mask SUM
 //!   patches COUNT SUM                  the sum goes over all records, seven numbers each
 //!   candidates COUNT                   then a line each:
 //!   X Y SCORE SIZE PLACE
-//!   corners TL TR BR BL                places in the patch list; a refusal ends the block before this line
+//!   corners TL TR BR BL                places in the patch list; 7 to 10 end the block before this line. After 16 this and what
+//!                                      follows is fit_geometry's, and there is no last line
 //!   matrix M0 M1 M2 M3 M4 M5 M6 M7 M8
 //!   lens K CX CY NORM
 //!   grade scored SCORE                 or `grade outside CELL`, or `grade few`
@@ -26,7 +28,8 @@
 //! begins as 0 and becomes (SUM · 65599 + number + 1) mod 4294967291 with each byte or number.
 
 use comparison::original::{self, Answer, Grade};
-use comparison::{bits, kinds, Case};
+use comparison::{bits, kinds, sampled, Case};
+use flatten::Frame;
 use scene::{Card, Cells, Grating, Random, Scene};
 use std::fmt::Write;
 use std::fs;
@@ -41,9 +44,10 @@ fn floats(l: &[f64]) -> String {
 
 fn answer(n: usize, c: &Case) -> String {
     let a = original::answer(c);
+    let number = a.rectify_number();
     let mut o = String::new();
     let f = c.frame;
-    let _ = writeln!(o, "capture {n}\nsides {} {}\nframe {} {} {} {}\nrefusal {}", c.w, c.h, f.width, f.height, f.cell, f.margin, a.number);
+    let _ = writeln!(o, "capture {n}\nsides {} {}\nframe {} {} {} {}\nrefusal {}", c.w, c.h, f.width, f.height, f.cell, f.margin, number);
     if let Some(l) = a.look {
         let _ = writeln!(o, "mask {}", sum(l.mask.iter().map(|&b| b as u64)));
         let _ = writeln!(o, "patches {} {}", l.patches.len(), sum(l.patches.iter().flatten().copied()));
@@ -60,7 +64,10 @@ fn answer(n: usize, c: &Case) -> String {
             Grade::Outside(cell) => writeln!(o, "grade outside {cell}"),
             Grade::TooFew => writeln!(o, "grade few"),
         };
-        let _ = writeln!(o, "trials 78 {}\ncanonical {}", flat.homographies, sum(flat.canonical.iter().map(|&b| b as u64)));
+        let _ = writeln!(o, "trials 78 {}", flat.homographies);
+        if number == 0 {
+            let _ = writeln!(o, "canonical {}", sum(flat.canonical.iter().map(|&b| b as u64)));
+        }
     }
     o
 }
@@ -99,9 +106,20 @@ fn first_with(kind: fn(&mut Random) -> Case, wanted: impl Fn(&Case, &Answer) -> 
     }
 }
 
-/// .. that the original answers with a number.
+/// .. that `rectify` answers with a number.
 fn first(kind: fn(&mut Random) -> Case, number: u32, longest: usize, seed: &mut u64) -> Case {
-    first_with(kind, |_, a| a.number == number, longest, seed)
+    first_with(kind, |_, a| a.rectify_number() == number, longest, seed)
+}
+
+fn too_few(a: &Answer) -> bool {
+    a.flat.as_ref().is_some_and(|flat| flat.grade == Grade::TooFew)
+}
+
+/// The same picture by a frame of twelve by twelve cells, of which 16 are sampled.
+fn sixteen(c: &Case) -> Case {
+    let Frame { cell, margin, .. } = c.frame;
+    let side = 2 * margin + 12 * cell;
+    Case { frame: Frame { width: side, height: side, cell, margin }, ..c.clone() }
 }
 
 /// The first cell outside of the kept trial, where it is neither the first by column, nor the last, nor cell 0.
@@ -226,6 +244,14 @@ fn replay() -> Vec<Case> {
     }
     let outside = |below: bool| move |c: &Case, a: &Answer| first_outside(c, a).is_some_and(|[_, row]| (row > 0) == below);
     out.extend([false, true].map(|below| first_with(kinds::large_cells, outside(below), 200, &mut seed)));
+    out.push(first_with(kinds::large_cells, |_, a| too_few(a), 200, &mut seed));
+    // No side of a card is longer than 600.
+    let fifteen = |c: &Case, a: &Answer| {
+        let small = c.frame.width.max(c.frame.height) <= 600;
+        small && sampled(c.frame) == 15 && too_few(a) && original::answer(&sixteen(c)).rectify_number() == 0
+    };
+    let c = first_with(kinds::few_cells, fifteen, 200, &mut seed);
+    out.extend([c.clone(), sixteen(&c)]);
     out
 }
 
@@ -262,6 +288,6 @@ fn main() -> std::io::Result<()> {
 }
 
 fn usage() -> ! {
-    eprintln!("usage: captures [-j] incident|path|replay TARGET");
+    eprintln!("usage: captures [-j] incident|path|replay|all TARGET");
     std::process::exit(2)
 }

@@ -230,8 +230,14 @@ fn fits(v: &mut Vectors, img: &RgbImage, f: &FrameSpec, points: &Points) -> Geom
     let moved = GeometryFit { h: Homography::from_mat(m), radial: fit.radial };
     assert!(outside(img, f, &moved).is_some_and(|cell| cell > 0));
     scored(v, img, f, &moved);
+    let laid = warp_with(img, f, &fit).data;
     v.word(0);
-    bytes(v, &warp_with(img, f, &fit).data);
+    bytes(v, &laid);
+    // Under a record with that fit, and under one that was not scored, which leaves what was there.
+    v.word(0);
+    bytes(v, &laid);
+    v.word(16);
+    bytes(v, &vec![5; laid.len()]);
     v.word(0);
     let [r, g, b] = bilinear(img, 40.25, 71.5).map(u64::from);
     v.word(r + (g << 8) + (b << 16));
