@@ -62,7 +62,7 @@ module _ (img : Image) (f : FrameSpec) where
   positive t r n (barren e q m b) = omega arith
 
   -- what the picture shows has a number from 7 on, whatever is tested
-  pub shown : (t : List Check) → ((j : ℕ) → Tested j t → ⊥) → (n : ℕ) → Unfitted img f t n → 7 ≤ n
+  shown : (t : List Check) → ((j : ℕ) → Tested j t → ⊥) → (n : ℕ) → Unfitted img f t n → 7 ≤ n
   shown t none n (undetected (tested x)) = absurd (none n x)
   shown t none n (undetected (few e x)) = omega arith
   shown t none n (undetected (shared e x)) = omega arith

@@ -31,7 +31,7 @@ guarding img f a =
       ready = λ z. passed img f a z .ready;
     }
 
--- but by 16, a rectification fits the geometry as `fit_geometry` does, after its own tests
+-- except by 16 a rectification fits the geometry as `fit_geometry` does, after its own tests
 pub fitting : (img : Image) (f : FrameSpec) {a b : Lent} {r : PictureFit} (h : Rectification img f a b r) → (h .number ≡ 16 → ⊥)
     → FittingAfter img f (rectifyTests img f a) (a .areas) (b .areas) (a .means) (b .means) r
 fitting img f {a} {b} h other =

@@ -1,5 +1,5 @@
 -- What a score says, which number a record gets, and which card: the theorems of specs/Scored. Assumes nothing.
-use Prim.Native.Nat.{ℕ, _≤_, _<_}
+use Prim.Native.Nat.{ℕ, _≤_}
 use native.Mathlib.Nat.{pos-of-ne-zero}
 use mathlib.Core.Path.{_≡_, refl, sym, ap, subst, _∙_}
 use mathlib.Core.Bool.{Bool, true, false, not}
@@ -15,7 +15,6 @@ use Rattle.frame.specs.Image.{Image}
 use Rattle.frame.specs.Refusals.{Lowest, Tested, check, lowestOf, verdictOf, frameOutside, captureWrong}
 use Rattle.frame.specs.Refusals.Lowest.{accepted, refused}
 use Rattle.frame.specs.declared.FrameSpec.{FrameSpec}
-use Rattle.frame.specs.declared.Verdict.the-variants.{Accepted}
 use Rattle.frame.proofs.Lowest.{Rising, lowest-of, none-tested, lowest-first, lowest-next, lowest-none, lowest-before, lowest-past}
 use Rattle.candidates.specs.Areas.{pictureTests}
 use Rattle.candidates.proofs.Refusing.{rising}
@@ -25,7 +24,7 @@ use Rattle.fit.specs.Grid.{gradeOf, fisher}
 use Rattle.fit.specs.Numbers.{gradeNumber}
 use Rattle.fit.specs.declared.GeometryFit.{GeometryFit}
 use Rattle.fit.specs.declared.Grade.{Grade}
-use Rattle.fit.specs.declared.Grade.the-variants.{Score, Outside, TooFew}
+use Rattle.fit.specs.declared.Grade.the-variants.{Score}
 use Rattle.fit.proofs.First.{some-outside, none-outside}
 use Rattle.search.proofs.Kept.{kept-grade}
 use Rattle.search.specs.declared.Outcome.the-variants.{Graded}

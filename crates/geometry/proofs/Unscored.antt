@@ -1,6 +1,6 @@
--- Refusal 16 beside those of `fit_geometry`: a rectification's number is that of the fit, or 16 where the fit has none. Assumes nothing.
+-- Refusal 16 beside those of `fit_geometry`: a rectification's number is that of the fit, or 16 where there is a fit without a score. Assumes nothing.
 use Prim.Native.Nat.{ℕ, _≤_, _<_}
-use mathlib.Core.Path.{_≡_, refl, sym, ap, subst, _∙_}
+use mathlib.Core.Path.{_≡_, refl, sym, subst, _∙_}
 use mathlib.Core.Bool.{Bool, true, false, not}
 use mathlib.Core.List.{List}
 use native.Mathlib.Omega.{arith}
@@ -37,11 +37,6 @@ score-kept (Graded (Score s)) h e = (s, refl)
 score-kept (Graded (Outside cell)) h e = absurd (subst T e tt)
 score-kept (Graded TooFew) h e = absurd (subst T e tt)
 
--- .. and a score is not unscored, whatever its float
-pub score-scored : (s : Float) → unscored (Graded (Score s)) ≡ false
-unfolding unscored
-score-scored s = refl
-
 -- ---- numbers
 
 module _ (img : Image) (f : FrameSpec) where
@@ -58,7 +53,7 @@ module _ (img : Image) (f : FrameSpec) where
   unrectified-positive t r n (unscoredFit e q m x) = omega arith
 
   module _ (t : List Check) (n : ℕ) where
-    -- but by 16 the number is that of the fit
+    -- except by 16 the number is that of the fit
     pub as-fit : (n ≡ 16 → ⊥) → Lowest (Unrectified img f t) n → Lowest (Unfitted img f t) n
     as-fit h (accepted e g) = accepted e (λ k u. g k (unfitted u))
     as-fit h (refused (unfitted u) g) = refused u (λ k l v. g k l (unfitted v))

@@ -56,7 +56,7 @@ unscored (Graded TooFew) = true
 -- the conditions of `rectify`, each with its number: those of `fit_geometry`, and 16
 pub data Unrectified (img : Image) (f : FrameSpec) (tests : List Check) (n : ℕ) : Type 0 where
   unfitted : Unfitted img f tests n → Unrectified img f tests n
-  -- [21.2] 16: "a fit whose kept last trial is unscored"
+  -- [21.2] 16: "a fit whose kept last trial is unscored"; `searched` is the last stage
   unscoredFit : n ≡ 16 → (q : Quad) → MarkedBy img f q → T (unscored (searched img f q .kept))
       → Unrectified img f tests n
 
