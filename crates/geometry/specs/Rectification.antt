@@ -60,11 +60,11 @@ pub data Unrectified (img : Image) (f : FrameSpec) (tests : List Check) (n : ℕ
   unscoredFit : n ≡ 16 → (q : Quad) → MarkedBy img f q → T (unscored (searched img f q .kept))
       → Unrectified img f tests n
 
--- what a search kept and counted, without its fit
+-- what a search kept and counted, without its fit; told after 16, of which the requirements give the number only
 unfoldable pub withoutFit : Stage → Stage
 withoutFit s = record { kept = s .kept; fit = noFit; tried = s .tried; homographies = s .homographies }
 
--- a picture's fit, or 16 in its place: no fit and no places then
+-- [21.2] a picture's fit, or 16 in its place: no fit and no places then
 unfoldable pub scoredReport : FitReport → FitReport
 scoredReport p =
     cond (eqb (p .number) 0 && unscored (p .stage .kept))
@@ -107,13 +107,13 @@ pub record Seen (img : Image) (f : FrameSpec) (a b : Lent) (r : PictureFit) (num
   pub tried-all : number ≡ 0 → r .tried ≡ 78
   -- [0.6] every canonical pixel is the reading where that fit puts it
   pub laid : number ≡ 0 → b .canonical ≡ warped img f (r .fit) (a .canonical)
-  -- [0.1] a refused rectification leaves the canonical image as it was
+  -- [0.1, 21.9] a refused rectification leaves the canonical image as it was
   pub kept : 7 ≤ number → b .canonical ≡ a .canonical
   -- by 10: the trials up to and with the stage that has none with a homography
   pub fruitless : number ≡ 10 → (q : Quad) → MarkedBy img f q → stageOf r ≡ searched img f q
   -- [21.5] "its accepted results now all carry a score"
   pub scored : number ≡ 0 → (s : Float) × (r .kept ≡ Graded (Score s))
-  -- by 16: the kept trial's grade and the counts of the whole search, and no fit
+  -- [21.9] by 16: the kept trial's grade and the counts of the whole search, and no fit
   pub undecided : number ≡ 16 → (q : Quad) → MarkedBy img f q → stageOf r ≡ withoutFit (searched img f q)
 
 -- ---- `rectify`
