@@ -10,5 +10,6 @@ pub mod Records
 pub mod Stacks
 pub mod Whole
 pub mod Unique
+pub mod Counts
 pub mod Masks
 pub mod Refused

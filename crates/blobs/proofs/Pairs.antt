@@ -13,11 +13,10 @@ use lib.ListN.{length}
 use Rattle.blobs.specs.Patches.{Touch, First, total, one}
 use Rattle.blobs.specs.Patches.Touch.{right, left, under, over}
 use Rattle.blobs.specs.Patches.Joined.{here, step}
-use Rattle.blobs.specs.Ready.{at}
 use Rattle.blobs.proofs.Grid.{touch-back}
 use Rattle.blobs.proofs.Sums.{total-below}
 
-total-split : (c : ℕ → ℕ) (a b : ℕ) → total one c (a + b) ≡ total one c a + total one (λ q. c (a + q)) b
+pub total-split : (c : ℕ → ℕ) (a b : ℕ) → total one c (a + b) ≡ total one c a + total one (λ q. c (a + q)) b
 unfolding total
 total-split c a zero = rw (add-zero, add-zero)
 total-split c a (suc b) = let h = total-split c a b in rw (add-suc) (omega (arith, h))
@@ -91,14 +90,14 @@ firsts-apart {m} {w} {p} {q} o f g t =
     no-self (over e) a b = omega arith
 
 -- so many first pixels there are at most
-pub firsts-few : (m : List ℕ) (w h : ℕ) (flag : List ℕ) → 0 < w → length m ≡ h * w → ((q : ℕ) → at flag q ≤ 1) → ((q : ℕ) → at flag q ≡ 1
-    → First m w q) → 2 * total one (at flag) (length m) ≤ length m + 1
-firsts-few m w h flag o z f g = subst (λ (n : ℕ). 2 * total one (at flag) n ≤ n + 1) (sym z) (few (at flag) w o f apart h)
+pub firsts-few : (m : List ℕ) (w h : ℕ) (c : ℕ → ℕ) → 0 < w → length m ≡ h * w → ((q : ℕ) → c q ≤ 1) → ((q : ℕ) → c q ≡ 1 → First m w q)
+    → 2 * total one c (length m) ≤ length m + 1
+firsts-few m w h c o z f g = subst (λ (n : ℕ). 2 * total one c n ≤ n + 1) (sym z) (few c w o f apart h)
   where
-    go : (p q : ℕ) → Touch w p q → Dec (at flag p ≡ 1) → Dec (at flag q ≡ 1) → at flag p + at flag q ≤ 1
+    go : (p q : ℕ) → Touch w p q → Dec (c p ≡ 1) → Dec (c q ≡ 1) → c p + c q ≤ 1
     go p q t (yes e) (yes e′) = absurd (firsts-apart o (g p e) (g q e′) t)
     go p q t (yes e) (no n) = omega (arith, f p, f q)
     go p q t (no n) d = omega (arith, f p, f q)
 
-    apart : (p q : ℕ) → Touch w p q → at flag p + at flag q ≤ 1
-    apart p q t = go p q t (ℕ-discrete (at flag p) 1) (ℕ-discrete (at flag q) 1)
+    apart : (p q : ℕ) → Touch w p q → c p + c q ≤ 1
+    apart p q t = go p q t (ℕ-discrete (c p) 1) (ℕ-discrete (c q) 1)

@@ -135,7 +135,7 @@ module _ {m : List ℕ} {w : ℕ} {c : Scanned} {i : ℕ} (v : Scan m w c i) (in
 
   -- there is room for one more
   pub scan-few : 2 * (count c + 1) ≤ length m + 1
-  scan-few = omega (arith, flag-many′, firsts-few m w (v .high) flag′ (v .wide) (v .size) (flags-set (v .flag) i in-flag (v .flag-most)) flag-first′)
+  scan-few = omega (arith, flag-many′, firsts-few m w (v .high) (at flag′) (v .wide) (v .size) (flags-set (v .flag) i in-flag (v .flag-most)) flag-first′)
 
   module _ (f : Flooding) (g : Flooded m w i (c .seen) f) where
     abbrev c′ : Scanned
@@ -325,7 +325,7 @@ module _ {m : List ℕ} {w : ℕ} {c : Scanned} (v : Scan m w c (length m)) wher
       go (no d) x = omega (arith, seen-all q d)
 
   pub scan-half : 2 * count c ≤ length m + 1
-  scan-half = omega (arith, v .flag-many, firsts-few m w (v .high) (v .flag) (v .wide) (v .size) (v .flag-most) (v .flag-first))
+  scan-half = omega (arith, v .flag-many, firsts-few m w (v .high) (at (v .flag)) (v .wide) (v .size) (v .flag-most) (v .flag-first))
 
   pub areas-ink : total (λ j. blobAt c j .area) one (count c) ≡ total one (ink m) (length m)
   areas-ink = v .areas ∙ total-same one (at (c .seen)) (ink m) (length m) (λ q b. seen-ink q)

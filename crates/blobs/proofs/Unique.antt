@@ -1,4 +1,4 @@
--- What the statements decide: a patch has one record, and a mask one patch list. Assumes nothing.
+-- What the statements decide: a patch has one record, and a mask one number of patches and one patch list. Assumes nothing.
 use mathlib.Core.Path.{_≡_, sym, ap, subst, _∙_}
 use mathlib.Core.Logic.{⊎-elim}
 use mathlib.Core.List.{List}
@@ -11,7 +11,7 @@ use Rattle.base.specs.Loops.{table}
 use Rattle.base.proofs.Enumerations.{Within, within-same, within-number}
 use Rattle.base.proofs.Table.{table-cong}
 use Rattle.blobs.specs.declared.Blob.{Blob}
-use Rattle.blobs.specs.Patches.{Joined, Marks, Least, Greatest, one, column, row, PatchOf, First, patchAt, PatchList}
+use Rattle.blobs.specs.Patches.{Joined, Marks, Least, Greatest, one, column, row, PatchOf, First, PatchCount, patchAt, PatchList}
 use Rattle.blobs.proofs.Sums.{total-same}
 use Rattle.blobs.proofs.Joins.{joined-sym}
 
@@ -44,23 +44,34 @@ patch-unique m w a t u p q =
 -- ---- the patch list is decided by the mask
 
 module _ (m : List ℕ) (w : ℕ) where
+  -- every first pixel is counted
+  counted : {n : ℕ} (a : PatchCount m w n) (p : ℕ) → First m w p → (j : ℕ) × (j < n) × (getD (a .firsts) j 0 ≡ p)
+  counted a p f =
+      let e = a .every p (f .0) in
+      (e .0, e .1, le-antisymm (a .first (e .0) (e .1) .1 p (e .2)) (f .1 (getD (a .firsts) (e .0) 0) (joined-sym (e .2))))
+
+  counts-within : {n o : ℕ} (a : PatchCount m w n) (b : PatchCount m w o) → Within (λ j. getD (a .firsts) j 0) (λ j. getD (b .firsts) j 0) n o
+  counts-within a b = record { rises = a .ordered; found = λ i h. counted b (getD (a .firsts) i 0) (a .first i h) }
+
+  -- a mask has one number of patches
+  pub count-unique : {n o : ℕ} → PatchCount m w n → PatchCount m w o → n ≡ o
+  count-unique a b = within-number (counts-within a b) (counts-within b a)
+
+  -- a patch list has as many records as there are patches
+  abbrev pub list-count : {l l′ : List ℕ} {n : ℕ} {firsts : List ℕ} → PatchList m w l l′ n firsts → PatchCount m w n
+  list-count {firsts = firsts} h = record { firsts = firsts; many = h .many; first = h .first; ordered = h .ordered; every = h .every }
+
   -- every first pixel stands in the list
   pub listed : {l l′ : List ℕ} {n : ℕ} {firsts : List ℕ} → PatchList m w l l′ n firsts → (p : ℕ) → First m w p → (j : ℕ) × (j < n) × (getD firsts j 0 ≡ p)
-  listed {l} {l′} {n} {firsts} h p f =
-      let e = h .every p (f .0) in
-      (e .0, e .1, le-antisymm (h .first (e .0) (e .1) .1 p (e .2)) (f .1 (getD firsts (e .0) 0) (joined-sym (e .2))))
-
-  module _ {k k′ l l′ : List ℕ} {n o : ℕ} {F G : List ℕ} (a : PatchList m w k k′ n F) (b : PatchList m w l l′ o G) where
-    firsts-within : Within (λ j. getD F j 0) (λ j. getD G j 0) n o
-    firsts-within = record { rises = a .ordered; found = λ i h. listed b (getD F i 0) (a .first i h) }
+  listed h p f = counted (list-count h) p f
 
   module _ {k k′ l l′ : List ℕ} {n o : ℕ} {F G : List ℕ} (a : PatchList m w k k′ n F) (b : PatchList m w l l′ o G) where
     -- as many patches, with the same first pixels and the same records
     pub list-number : n ≡ o
-    list-number = within-number (firsts-within a b) (firsts-within b a)
+    list-number = count-unique (list-count a) (list-count b)
 
     pub list-firsts : (j : ℕ) → j < n → (j < o) × (getD F j 0 ≡ getD G j 0)
-    list-firsts j h = within-same (firsts-within a b) (firsts-within b a) j h
+    list-firsts j h = within-same (counts-within (list-count a) (list-count b)) (counts-within (list-count b) (list-count a)) j h
 
     pub list-records : (j : ℕ) → j < n → patchAt k′ j ≡ patchAt l′ j
     list-records j h =

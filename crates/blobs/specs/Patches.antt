@@ -65,6 +65,15 @@ pub record PatchOf (m : List ℕ) (w a : ℕ) (t : Blob) : Type 0 where
 abbrev pub First : List ℕ → ℕ → ℕ → Type 0
 First m w p = Dark m p × ((q : ℕ) → Joined m w p q → p ≤ q)
 
+-- [7.1, 22.2] n is the number of patches of m: firsts are their first pixels, each once, and every dark pixel belongs to
+-- the patch of one of them
+pub record PatchCount (m : List ℕ) (w n : ℕ) : Type 0 where
+  pub firsts : List ℕ
+  pub many : length firsts ≡ n
+  pub first : (j : ℕ) → j < n → First m w (getD firsts j 0)
+  pub ordered : (i j : ℕ) → i < j → j < n → getD firsts i 0 < getD firsts j 0
+  pub every : (q : ℕ) → Dark m q → (j : ℕ) × (j < n) × Joined m w (getD firsts j 0) q
+
 -- 1 for a dark pixel, 0 for a light one
 abbrev pub ink : List ℕ → ℕ → ℕ
 ink m q = min (getD m q 0) 1

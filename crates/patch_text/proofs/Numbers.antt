@@ -19,11 +19,11 @@ use Rattle.patch_text.specs.Steps.{Written}
 
 -- ---- the digits of a number, the last first: `spelled k` has room for k of them
 module _ (k : ℕ) (n : ℕ) where
-  spelled-last : n < 10 → spelled (suc k) n ≡ (48 + n) ∷ []
+  pub spelled-last : n < 10 → spelled (suc k) n ≡ (48 + n) ∷ []
   unfolding spelled
   spelled-last l = sym (pick-yes (ltb n 10) ((48 + n) ∷ []) _ (lt-ltb n 10 l))
 
-  spelled-more : 10 ≤ n → spelled (suc k) n ≡ spelled k (n / 10) ++ ((48 + n % 10) ∷ [])
+  pub spelled-more : 10 ≤ n → spelled (suc k) n ≡ spelled k (n / 10) ++ ((48 + n % 10) ∷ [])
   unfolding spelled
   spelled-more l = sym (pick-no (ltb n 10) ((48 + n) ∷ []) _ (le-ltb n 10 l))
 

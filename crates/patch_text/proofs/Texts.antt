@@ -53,11 +53,11 @@ module _ (w : ℕ) (m : List ℕ) where
   abbrev byte : ℕ → ℕ
   byte k = byRow (w + 1) (byteAt w m) k
 
-  byte-feed : (k : ℕ) → k % (w + 1) ≡ w → byte k ≡ feed
+  pub byte-feed : (k : ℕ) → k % (w + 1) ≡ w → byte k ≡ feed
   unfolding byRow byteAt
   byte-feed k e = sym (pick-yes (eqb (k % (w + 1)) w) feed _ (eq-eqb (k % (w + 1)) w e))
 
-  byte-letter : (k : ℕ) → (k % (w + 1) ≡ w → ⊥) → byte k ≡ letter (getD m (k / (w + 1) * w + k % (w + 1)) 0)
+  pub byte-letter : (k : ℕ) → (k % (w + 1) ≡ w → ⊥) → byte k ≡ letter (getD m (k / (w + 1) * w + k % (w + 1)) 0)
   unfolding byRow byteAt
   byte-letter k o = sym (pick-no (eqb (k % (w + 1)) w) feed _ (ne-eqb (k % (w + 1)) w o))
 

@@ -1,5 +1,7 @@
-// What the programs `patches` and `test_patches` run.
+// What the programs `patches` and `test_patches` run, and the refusal for the program
+// `most_patches`.
 use crate::print;
+pub use crate::print::refused;
 use crate::read;
 ghost use mathlib.Core.Path.{_≡_};
 ghost use Prim.Native.Nat.{_≤_};
