@@ -61,6 +61,23 @@ static void lumas(const struct tablet_areas *a)
     assert(tablet_luma(0, 0, 255) == 0.114f * 255.0f && tablet_luma(0, 0, 0) == 0.0f);
 }
 
+/* The mask with most patches takes every record of the areas, and with one less it is refused. */
+static void boards(struct tablet_areas *a)
+{
+    enum { MOST = SIDE * SIDE / 2 };
+    uint64_t counts[TABLET_LABELLED_LEN];
+    assert(tablet_checkerboard(SIDE, 4097, a->mask, a->mask_len) == 2);
+    assert(tablet_checkerboard(SIDE, SIDE + 1, a->mask, a->mask_len) == 3);
+    assert(tablet_checkerboard(SIDE, SIDE, a->mask, a->mask_len) == 0);
+    for (size_t i = 0; i < SIDE * SIDE; i++) assert(a->mask[i] == ((i % SIDE + i / SIDE) % 2 == 0));
+    assert(a->patches_len == TABLET_PATCH_LEN * MOST);
+    assert(tablet_label_blobs(a->mask, SIDE * SIDE, SIDE, SIDE, a->seen, a->seen_len, a->waiting, a->waiting_len,
+                              a->patches, a->patches_len - 1, counts, TABLET_LABELLED_LEN) == 3);
+    assert(tablet_label_blobs(a->mask, SIDE * SIDE, SIDE, SIDE, a->seen, a->seen_len, a->waiting, a->waiting_len,
+                              a->patches, a->patches_len, counts, TABLET_LABELLED_LEN) == 0);
+    assert(counts[0] == MOST && counts[1] == 1 && a->patches[TABLET_PATCH_LEN * (MOST - 1)] == 1);
+}
+
 int main(void)
 {
     uint64_t lengths[TABLET_LENGTHS_LEN];
@@ -79,6 +96,7 @@ int main(void)
     assert(a.counts[TABLET_CANDIDATES] == 4 && a.counts[TABLET_PATCHES] >= 4);
     paged(&a);
     lumas(&a);
+    boards(&a);
     assert(tablet_areas_fit(&a, SIDE, SIDE, FRAME) == 0);
     assert(tablet_areas_rectify(&b, SIDE, SIDE, FRAME) == 0);
     assert(memcmp(a.fit, b.fit, sizeof a.fit) == 0 && memcmp(a.counts, b.counts, sizeof a.counts) == 0);

@@ -4,7 +4,7 @@
  * The lowest number that applies is given, but in one place: tablet_read_book gives 3 after 14 and 15.
  *    1  a frame number outside its limit: sides 1 to 4096, cell 1 to 512, margin 0 to 4096 (the writer of the frame)
  *    2  a capture side outside 1 to 4096, or a capture or mask of another length than its sides say (the host)
- *    3  a work area, a slice of numbers handed in or for results, or the memory for a book is too short (the host)
+ *    3  a work area, a slice of numbers handed in or for results, or the memory for a book or a mask is too short (the host)
  *    4  the canonical image is not 3 * width * height bytes (the host)
  *    5  the frame has no room for its markers (the writer of the frame)
  *    6  a capture side below 32 (the photographer)
@@ -174,6 +174,11 @@ uint32_t tablet_fiducial_candidates(const uint8_t *capture, size_t capture_len, 
 uint32_t tablet_label_blobs(const uint8_t *mask, size_t mask_len, size_t w, size_t h,
                             uint8_t *seen, size_t seen_len, uint32_t *waiting, size_t waiting_len,
                             uint64_t *patches, size_t patches_len, uint64_t *counts, size_t counts_len);
+
+/* The mask of w by h with most patches, (w * h + 1) / 2 of one pixel each: 1 (dark) where column plus row is even, else 0. No mask
+ * of that size has more, so that tablet_label_blobs needs no more patch records than it asks for, and takes all of them for this
+ * one. 2 (sides), 3. mask: w * h, and the rest of a longer one stays as it was. */
+uint32_t tablet_checkerboard(size_t w, size_t h, uint8_t *mask, size_t mask_len);
 
 /* The fit of four observed points under a given lens term. 1, 2 (sides), 3, 5, 10.
  * points: TABLET_POINTS_LEN; fit: TABLET_FIT_LEN. */

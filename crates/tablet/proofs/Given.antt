@@ -28,6 +28,7 @@ use Rattle.frame.specs.declared.Quad.{Quad}
 use Rattle.fiducials.specs.declared.Places.{Places}
 use Rattle.geometry.specs.Contracts.{Warping, RecordWarping}
 use Rattle.page.specs.Contracts.{Paging}
+use Rattle.checkerboard.specs.Contracts.{Drawing}
 use Rattle.book.specs.Layout.{bookLength, countIn}
 use Rattle.book.specs.Contracts.{Reading, Writing}
 use Rattle.book.specs.declared.FitRecord.{FitRecord}
@@ -47,6 +48,9 @@ stamping img f v out r e s = record { given = verdict-is v _ r (s .given) e; acc
 
 pub paging : (c : List Float) (count : ℕ) (page page′ : List ℕ) (v : Verdict) (r : ℕ) → r ≡ numberOf v → Paging c count page page′ v → Paging c count page page′ (verdictOf r)
 paging c count page page′ v r e s = record { given = verdict-is v _ r (s .given) e; accepted = s .accepted; refused = s .refused }
+
+pub drawing : (w h : ℕ) (mask mask′ : List ℕ) (v : Verdict) (r : ℕ) → r ≡ numberOf v → Drawing w h mask mask′ v → Drawing w h mask mask′ (verdictOf r)
+drawing w h mask mask′ v r e s = record { given = verdict-is v _ r (s .given) e; accepted = s .accepted; refused = s .refused }
 
 -- .. where that answer is a number
 given-number : (a : Number) (n v r : ℕ) → a ≡ numberAs n v → r ≡ numberRefusal a → numberAs r v ≡ numberAs n v

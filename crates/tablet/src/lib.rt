@@ -8,6 +8,7 @@
 // the numbers of a slice is never written. A refusal by 1 to 6 or 12 to 15 writes nothing at all,
 // and one by 16 no canonical image and no fit.
 mod answers;
+mod boards;
 mod books;
 mod fits;
 mod frames;
@@ -20,6 +21,7 @@ mod slices;
 mod whole;
 
 // For the program test_tablet, which calls each by position.
+pub use boards::tablet_checkerboard;
 pub use books::tablet_read_book;
 pub use books::tablet_write_book;
 pub use fits::tablet_fit_for;

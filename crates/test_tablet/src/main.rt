@@ -48,6 +48,9 @@ fn main() {
     rms_error(&centers, &points);
     let book = write_book();
     read_book(&book);
+    checkerboard(4, 9);
+    checkerboard(4, 4097);
+    checkerboard(4, 11);
 }
 
 // ---- fits and readings
@@ -243,4 +246,13 @@ fn read_book(book: &[u8; 136]) {
     word(tablet::tablet_read_book(book, &mut heads, &mut numbers) as u64);
     shorts(&heads, 0, 5);
     words(&numbers, 0, 15);
+}
+
+// ---- masks
+
+// In an area of 40 bytes: for 4 by 9 pixels it is longer, for 4 by 11 it is short.
+fn checkerboard(w: usize, h: usize) {
+    let mut mask = [9u8; 40];
+    word(tablet::tablet_checkerboard(w, h, &mut mask) as u64);
+    all_bytes(&mask);
 }

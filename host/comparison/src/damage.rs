@@ -3,7 +3,7 @@
 //! garbage in areas of the smallest lengths.
 
 use crate::original;
-use crate::{books, kinds, pages, sizes, Case, Memory};
+use crate::{boards, books, kinds, pages, sizes, Case, Memory};
 use flatten::{ffi, Frame};
 use scene::Random;
 
@@ -15,6 +15,7 @@ pub enum Function {
     DetectFiducials,
     FiducialCandidates,
     LabelBlobs,
+    Checkerboard,
     GridScore,
     WarpWith,
     WarpRecord,
@@ -38,6 +39,7 @@ const FUNCTIONS: &[Function] = &[
     Function::DetectFiducials,
     Function::FiducialCandidates,
     Function::LabelBlobs,
+    Function::Checkerboard,
     Function::GridScore,
     Function::WarpWith,
     Function::WarpRecord,
@@ -126,7 +128,7 @@ fn lowest(c: &Call, seen: Numbers) -> u32 {
     let capture_bad = sides_bad || case.data.len() != 3 * case.w * case.h;
     if frame_bad || sides_bad {
         // Sizes can only be worked out inside the limits.
-        let frame_counts = !apart(c.function) && !matches!(c.function, Function::LabelBlobs | Function::Bilinear);
+        let frame_counts = !apart(c.function) && !matches!(c.function, Function::LabelBlobs | Function::Checkerboard | Function::Bilinear);
         let sides_count = !apart(c.function) && c.function != Function::MarkerCenters;
         if frame_bad && frame_counts {
             return 1;
@@ -183,6 +185,7 @@ fn lowest(c: &Call, seen: Numbers) -> u32 {
             (2, m.mask.len() != s.pixels),
             (3, m.seen.len() < s.pixels || m.waiting.len() < s.pixels || m.patches.len() < 7 * s.patches || counts < 2),
         ],
+        Function::Checkerboard => vec![(3, m.mask.len() < s.pixels)],
         Function::GridScore => vec![(2, capture_bad), (3, given < 13 || means_short || counts < 2 || numbers < 1)],
         Function::WarpWith => vec![(2, capture_bad), (3, given < 13), (4, card_wrong)],
         Function::WarpRecord => vec![(2, capture_bad), (3, given < 13), (4, card_wrong), (16, c.grade != 0)],
@@ -208,6 +211,7 @@ fn run(c: &mut Call) -> u32 {
         Function::DetectFiducials => ffi::detect_fiducials(capture, w, h, f, &mut areas, &mut c.counts, &mut c.numbers),
         Function::FiducialCandidates => ffi::fiducial_candidates(capture, w, h, f, &mut areas, &mut c.counts),
         Function::LabelBlobs => ffi::label_blobs(areas.mask, w, h, areas.seen, areas.waiting, areas.patches, &mut c.counts),
+        Function::Checkerboard => ffi::checkerboard(w, h, areas.mask),
         Function::GridScore => ffi::grid_score(capture, w, h, f, &c.given, means, &mut c.counts, &mut c.numbers),
         Function::WarpWith => ffi::warp_with(capture, w, h, f, &c.given, canonical),
         Function::WarpRecord => {
@@ -226,8 +230,11 @@ fn run(c: &mut Call) -> u32 {
 
 /// How many entries of each area, from the first on, a call may have written.
 struct Written {
-    pixels: usize,
+    luma: usize,
     integral: usize,
+    mask: usize,
+    /// The waiting list too.
+    marks: usize,
     patches: usize,
     candidates: usize,
     means: usize,
@@ -432,7 +439,7 @@ fn garbage(c: &mut Call, r: &mut Random) {
 
 /// What a function may write: each area's written entries, from 0. All else stays.
 fn written(c: &Call, number: u32) -> (Written, [usize; 3], usize) {
-    let nothing = Written { pixels: 0, integral: 0, patches: 0, candidates: 0, means: 0, page: 0 };
+    let nothing = Written { luma: 0, integral: 0, mask: 0, marks: 0, patches: 0, candidates: 0, means: 0, page: 0 };
     if matches!(number, 1..=6 | 12..=15) {
         return (nothing, [0; 3], 0);
     }
@@ -441,8 +448,10 @@ fn written(c: &Call, number: u32) -> (Written, [usize; 3], usize) {
     let s = if side(c.case.w) && side(c.case.h) { sizes(c.case.w, c.case.h, f) } else { sizes(1, 1, f) };
     let listed = |i: usize| c.counts[i] as usize;
     let look = |means| Written {
-        pixels: s.pixels,
+        luma: s.pixels,
         integral: s.integral,
+        mask: s.pixels,
+        marks: s.pixels,
         patches: 7 * listed(ffi::PATCHES),
         candidates: listed(ffi::CANDIDATES),
         means,
@@ -454,7 +463,8 @@ fn written(c: &Call, number: u32) -> (Written, [usize; 3], usize) {
         Function::FitGeometry => (look(s.means), [11, accepted(14), 0], 0),
         Function::DetectFiducials => (look(0), [7, accepted(8), 0], 0),
         Function::FiducialCandidates => (look(0), [3, 0, 0], 0),
-        Function::LabelBlobs => (Written { pixels: s.pixels, patches: 7 * listed(0), ..nothing }, [2, 0, 0], 0),
+        Function::LabelBlobs => (Written { marks: s.pixels, patches: 7 * listed(0), ..nothing }, [2, 0, 0], 0),
+        Function::Checkerboard => (Written { mask: s.pixels, ..nothing }, [0; 3], 0),
         Function::GridScore => (Written { means: s.means, ..nothing }, [2, 1, 0], 0),
         Function::WarpWith | Function::WarpRecord => (nothing, [0; 3], accepted(s.canonical)),
         Function::MarkerCenters => (nothing, [0, accepted(8), 0], 0),
@@ -478,13 +488,11 @@ fn kept<T: Copy, B: PartialEq>(what: &str, before: &[T], after: &[T], from: usiz
 fn untouched(before: &Call, after: &Call, number: u32) -> Result<(), String> {
     let (w, [counts, numbers, colour], canonical) = written(after, number);
     let (a, b) = (&before.memory, &after.memory);
-    let labels = before.function == Function::LabelBlobs;
-    let planes = |n: usize| if labels { 0 } else { n };
-    kept("luma", &a.luma, &b.luma, planes(w.pixels), f32::to_bits)?;
+    kept("luma", &a.luma, &b.luma, w.luma, f32::to_bits)?;
     kept("integral", &a.integral, &b.integral, w.integral, f64::to_bits)?;
-    kept("mask", &a.mask, &b.mask, planes(w.pixels), |v| v)?;
-    kept("marks", &a.seen, &b.seen, w.pixels, |v| v)?;
-    kept("waiting list", &a.waiting, &b.waiting, w.pixels, |v| v)?;
+    kept("mask", &a.mask, &b.mask, w.mask, |v| v)?;
+    kept("marks", &a.seen, &b.seen, w.marks, |v| v)?;
+    kept("waiting list", &a.waiting, &b.waiting, w.marks, |v| v)?;
     kept("patches", &a.patches, &b.patches, w.patches, |v| v)?;
     kept("candidates", &a.candidates, &b.candidates, 4 * w.candidates, f64::to_bits)?;
     kept("places", &a.blob_index, &b.blob_index, w.candidates, |v| v)?;
@@ -511,11 +519,10 @@ fn agree(x: &Call, y: &Call, number: u32) -> Result<(), String> {
     let (w, [counts, numbers, colour], canonical) = written(x, number);
     agreed("counts", &x.counts, &y.counts, counts, |v| v)?;
     let (a, b) = (&x.memory, &y.memory);
-    let planes = if x.function == Function::LabelBlobs { 0 } else { w.pixels };
-    agreed("luma", &a.luma, &b.luma, planes, f32::to_bits)?;
+    agreed("luma", &a.luma, &b.luma, w.luma, f32::to_bits)?;
     agreed("integral", &a.integral, &b.integral, w.integral, f64::to_bits)?;
-    agreed("mask", &a.mask, &b.mask, planes, |v| v)?;
-    agreed("marks", &a.seen, &b.seen, w.pixels, |v| v)?;
+    agreed("mask", &a.mask, &b.mask, w.mask, |v| v)?;
+    agreed("marks", &a.seen, &b.seen, w.marks, |v| v)?;
     agreed("patches", &a.patches, &b.patches, w.patches, |v| v)?;
     agreed("candidates", &a.candidates, &b.candidates, 4 * w.candidates, f64::to_bits)?;
     agreed("places", &a.blob_index, &b.blob_index, w.candidates, |v| v)?;
@@ -526,9 +533,15 @@ fn agree(x: &Call, y: &Call, number: u32) -> Result<(), String> {
     agreed("capture", &x.case.data, &y.case.data, x.case.data.len(), |v| v)
 }
 
-/// What an accepted call of Lengths or CandidatePage wrote.
+/// What an accepted call of Checkerboard, Lengths or CandidatePage wrote.
 fn answered(c: &Call) -> Result<(), String> {
     match c.function {
+        Function::Checkerboard => {
+            let (w, mask) = (c.case.w, &c.memory.mask);
+            if let Some(i) = (0..w * c.case.h).find(|&i| mask[i] != boards::square(w, i)) {
+                return Err(format!("byte {i} of the mask: {}, it is {}", mask[i], boards::square(w, i)));
+            }
+        }
         Function::Lengths => {
             let s = sizes(c.case.w, c.case.h, c.case.frame);
             let n = s.pixels;

@@ -1,9 +1,9 @@
-//! Functions of numbers, compared one call at a time; the candidate page and the book of fits with definitions of their own
-//! (`pages`, `books`). A call is its name and 64-bit words, so that a file can hold it; `luma` has no words, and is compared on
+//! Functions of numbers, compared one call at a time; the checkerboard, the candidate page and the book of fits with definitions of
+//! their own (`boards`, `pages`, `books`). A call is its name and 64-bit words, so that a file can hold it; `luma` has no words, and is compared on
 //! every three bytes at once.
 
 use crate::original as o;
-use crate::{bits, books, luma, pages, sampled};
+use crate::{bits, boards, books, luma, pages, sampled};
 use flatten::{ffi, Frame};
 use lpcore::geometry as g;
 use lpcore::image::RgbImage;
@@ -30,6 +30,7 @@ pub const FUNCTIONS: &[Function] = &[
     ("warp_with", 1, |r| picture_call(r, false)),
     ("warp_record", 1, record_call),
     ("stamp_fiducials", 1, stamp_call),
+    ("checkerboard", 1, boards::call),
     ("candidate_page", 100, pages::call),
     ("read_book", 100, books::call),
     ("write_book", 100, books::call),
@@ -321,6 +322,7 @@ pub fn check(name: &str, w: &[u64]) -> Result<(), String> {
             numbered(n, if g::stamp_fiducials(&mut img, &o::spec(f)) { 0 } else { 5 })?;
             bytes(&ours, &img.data)
         }
+        "checkerboard" => boards::check_words(w),
         "candidate_page" => pages::check_words(w),
         "read_book" => books::check_words(w, true),
         "write_book" => books::check_words(w, false),

@@ -1,4 +1,5 @@
 //! What the comparison, the benchmark and the capture files share.
+pub mod boards;
 pub mod books;
 pub mod captures;
 pub mod clock;

@@ -110,6 +110,12 @@ pub fn luma_plane(w: usize, h: usize, data: &[u8]) -> Vec<f32> {
     inner::luma_plane(&lpcorepub::image::RgbImage { w, h, data: data.to_vec() })
 }
 
+/// The patches of a mask, any nonzero byte dark.
+pub fn patches(mask: &[u8], w: usize, h: usize) -> Vec<[u64; 7]> {
+    let dark: Vec<bool> = mask.iter().map(|&b| b != 0).collect();
+    records(&inner::label_blobs(&dark, w, h))
+}
+
 fn look(case: &Case, img: &RgbImage, marker: f64) -> Look {
     let (w, h) = (case.w, case.h);
     let luma = luma_plane(w, h, &case.data);

@@ -150,6 +150,7 @@ mod c {
         pub fn tablet_rms_error(
             a: *const f64, a_len: usize, b: *const f64, b_len: usize, result: *mut f64, result_len: usize,
         ) -> u32;
+        pub fn tablet_checkerboard(w: usize, h: usize, mask: *mut u8, mask_len: usize) -> u32;
         pub fn tablet_candidate_page(
             candidates: *const f64, candidates_len: usize, count: usize, page: *mut u8, page_len: usize,
         ) -> u32;
@@ -377,6 +378,11 @@ pub fn luma(r: u8, g: u8, b: u8) -> f32 {
 pub fn rms_error(a: &[f64], b: &[f64], result: &mut [f64]) -> u32 {
     // SAFETY: each slice goes with its own length; the result is borrowed apart from both point lists, which are only read.
     unsafe { c::tablet_rms_error(a.as_ptr(), a.len(), b.as_ptr(), b.len(), result.as_mut_ptr(), result.len()) }
+}
+
+pub fn checkerboard(w: usize, h: usize, mask: &mut [u8]) -> u32 {
+    // SAFETY: the mask goes with its own length, and is lent to this call alone.
+    unsafe { c::tablet_checkerboard(w, h, mask.as_mut_ptr(), mask.len()) }
 }
 
 pub fn candidate_page(candidates: &[f64], count: usize, page: &mut [u8]) -> u32 {

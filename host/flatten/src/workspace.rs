@@ -254,6 +254,14 @@ impl Workspace {
         Ok(())
     }
 
+    /// The mask of the capture's sides with most patches, 1 where column plus row is even, else 0: `label_blobs` of it fills all
+    /// memory for patches.
+    pub fn checkerboard(&self) -> Vec<u8> {
+        let mut mask = vec![0; self.w * self.h];
+        Refusal::check(ffi::checkerboard(self.w, self.h, &mut mask)).expect("a workspace has sides within the limits");
+        mask
+    }
+
     /// The card of the last accepted call, 3·width·height bytes by rows.
     pub fn canonical(&self) -> &[u8] {
         &self.canonical

@@ -247,6 +247,7 @@ fn an_exchange_in_any_of_the_three_is_seen() {
         ("fn tablet_rms_error(", "fn tablet_rms_error", "fn tablet_error"),
         ("fn tablet_apply(", "matrix: &[f64]", "matrix: &mut [f64]"),
         ("fn tablet_luma(", "r: u8, g: u8", "g: u8, r: u8"),
+        ("fn tablet_checkerboard(", "w: usize, h: usize", "h: usize, w: usize"),
         ("fn tablet_candidate_page(", "page: &mut [u8]", "page: &[u8]"),
         ("fn tablet_read_book(", "heads: &mut [u32]", "heads: &mut [u64]"),
     ] {
@@ -258,6 +259,7 @@ fn an_exchange_in_any_of_the_three_is_seen() {
         ("tablet_lengths(", "uint64_t *lengths", "uint32_t *lengths"),
         ("uint32_t tablet_rms_error(", "tablet_rms_error", "tablet_error"),
         ("float tablet_luma(", "float", "double"),
+        ("tablet_checkerboard(", "size_t w, size_t h", "size_t h, size_t w"),
         ("tablet_candidate_page(", "size_t candidates_len, size_t count", "size_t count, size_t candidates_len"),
         ("tablet_write_book(", "const uint32_t *heads", "uint32_t *heads"),
     ] {
@@ -270,6 +272,7 @@ fn an_exchange_in_any_of_the_three_is_seen() {
         ("c::tablet_grid(", "f.width, f.height", "f.height, f.width"),
         ("c::tablet_luma(", "r, g, b", "b, g, r"),
         ("c::tablet_warp_with(", "canonical.as_mut_ptr(), canonical.len()", "canonical.as_mut_ptr(), fit.len()"),
+        ("c::tablet_checkerboard(", "w, h", "h, w"),
         ("c::tablet_candidate_page(", "candidates.len(), count", "count, candidates.len()"),
         ("c::tablet_write_book(", "numbers.len(), count", "count, numbers.len()"),
     ] {

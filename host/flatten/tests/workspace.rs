@@ -111,6 +111,26 @@ fn patches_of_a_mask() {
     assert_eq!(ws.patches().len(), 0);
 }
 
+/// The checkerboard fills the memory for patches, at sizes with an even and an odd width and with a single line.
+#[test]
+fn most_patches() {
+    for (w, h) in [(1, 1), (5, 4), (4, 5), (7, 9), (33, 1), (1, 33)] {
+        let mut ws = Workspace::new(w, h, SMALL).unwrap();
+        let mask = ws.checkerboard();
+        assert_eq!(mask, (0..w * h).map(|i| u8::from((i % w + i / w).is_multiple_of(2))).collect::<Vec<_>>());
+        ws.label_blobs(&mask).unwrap();
+        assert_eq!((ws.patches().len(), ws.waited()), ((w * h).div_ceil(2), 1), "{w} by {h}");
+        let last = (w * h - 1) as u64 - u64::from(mask[w * h - 1] == 0);
+        let found = ws.patches().last().unwrap();
+        assert_eq!((found.area, found.y0 * w as u64 + found.x0), (1, last));
+    }
+    // A longer mask keeps its rest, and a refused one all of it.
+    for (w, h, number, wanted) in [(2, 2, 0, [1, 0, 0, 1, 9]), (0, 5, 2, [9; 5]), (4097, 5, 2, [9; 5]), (2, 3, 3, [9; 5])] {
+        let mut mask = [9; 5];
+        assert_eq!((ffi::checkerboard(w, h, &mut mask), mask), (number, wanted), "{w} by {h}");
+    }
+}
+
 #[test]
 fn limits() {
     for (w, h, frame, number) in [

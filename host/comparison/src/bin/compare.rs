@@ -1,9 +1,10 @@
 //! compare SEED COUNT [PART]: COUNT captures, 500·COUNT point sets and 50·COUNT damaged calls on the library and on the original;
-//! or one PART of these: captures, points or damage. With the points comes the luma of every three bytes.
+//! or one PART of these: captures, points or damage. With the points come the checkerboards at the limits and the luma of every
+//! three bytes.
 //! compare replay FILE: once more what a file of an earlier difference holds.
 //! Exit status 0 without a difference, 1 with one, 2 bad usage.
 
-use comparison::{captures, damage, direct, kinds, luma, Case};
+use comparison::{boards, captures, damage, direct, kinds, luma, Case};
 use scene::Random;
 use std::collections::BTreeMap;
 use std::fs;
@@ -87,6 +88,10 @@ fn run_direct(seed: u64, count: usize) {
         }
         println!("| {name} | {calls} |");
     }
+    for words in boards::LIMITS {
+        one_call("checkerboard", &words);
+    }
+    println!("| checkerboard, at the limits | {} |", boards::LIMITS.len());
     one_call("luma", &[]);
     println!("| luma | {} |\n", luma::TRIPLES);
 }

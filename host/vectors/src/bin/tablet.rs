@@ -4,10 +4,10 @@
 //
 // stdin is the capture's bytes. stdout has the answers' words, one a line, in hexadecimal: each call's refusal number, and
 // then what it wrote; of luma, which is never refused, the pattern. Of the areas some entries are printed, of bytes every
-// sixteenth word of eight, of the candidate page and of the book of fits all. The number of waiting pixels is not the
-// original's, and left out. The smallest lengths are those of docs/REQUIREMENTS.md, 3.1. The original has no candidate
-// page: its text is made here, from the original's candidates. Nor has it a book of fits: its bytes are made here by
-// to_le_bytes.
+// sixteenth word of eight, of the candidate page, the book of fits and the checkerboard all. The number of waiting pixels
+// is not the original's, and left out. The smallest lengths are those of docs/REQUIREMENTS.md, 3.1. The original has no
+// candidate page: its text is made here, from the original's candidates. Nor has it a book of fits, whose bytes are made
+// here by to_le_bytes, or a checkerboard, which is a formula here.
 use lpcorepub::frame::FrameSpec;
 use lpcorepub::geometry::{
     adaptive_black_mask, bilinear, detect_fiducials, fiducial_candidates, fit_for, fit_geometry, grid_score, label_blobs, luma_plane,
@@ -170,6 +170,20 @@ fn book(v: &mut Vectors) {
     words(v, &[9, 9]);
 }
 
+// ---- the checkerboard
+
+// Of 4 by 9 pixels, and the rest of the area as it was; all of it as it was after a refusal.
+fn boards(v: &mut Vectors) {
+    let mut mask: Vec<u8> = (0..36u32).map(|i| u8::from((i % 4 + i / 4).is_multiple_of(2))).collect();
+    mask.resize(40, 9);
+    v.word(0);
+    all_bytes(v, &mask);
+    for number in [2, 3] {
+        v.word(number);
+        all_bytes(v, &[9; 40]);
+    }
+}
+
 // ---- the calls
 
 // Number, counts, fit with its score: the same for rectify and fit_geometry.
@@ -291,5 +305,6 @@ fn main() {
     frames(&mut v, &f);
     matrices(&mut v, &f, &points, &fit);
     book(&mut v);
+    boards(&mut v);
     v.write("test_tablet");
 }
