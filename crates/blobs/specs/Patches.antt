@@ -65,8 +65,8 @@ pub record PatchOf (m : List ℕ) (w a : ℕ) (t : Blob) : Type 0 where
 abbrev pub First : List ℕ → ℕ → ℕ → Type 0
 First m w p = Dark m p × ((q : ℕ) → Joined m w p q → p ≤ q)
 
--- [7.1, 22.2] n is the number of patches of m: firsts are their first pixels, each once, and every dark pixel belongs to
--- the patch of one of them
+-- [7.1, 22.2] n is the number of patches of m: firsts are their first pixels, each once, and every dark pixel belongs
+-- to the patch of one of them
 pub record PatchCount (m : List ℕ) (w n : ℕ) : Type 0 where
   pub firsts : List ℕ
   pub many : length firsts ≡ n

@@ -1,5 +1,5 @@
 -- No mask has more patches than the checkerboard (specs/Most). Assumes nothing.
-use Prim.Native.Nat.{ℕ, _+_, _*_, _/_, _≤_, _<_}
+use Prim.Native.Nat.{ℕ, _*_, _/_, _≤_, _<_}
 use native.Mathlib.Nat.{mul-comm}
 use native.Mathlib.Omega.{arith}
 use mathlib.Core.Path.{_≡_, sym, ap, subst, _∙_}
@@ -23,8 +23,7 @@ use Rattle.blobs.proofs.Grid.{dark-inside}
 use Rattle.blobs.proofs.Refused.{passes}
 use Rattle.blobs.proofs.Unique.{count-unique, list-count}
 use Rattle.checkerboard.specs.Board.{squareAt, board, reserved}
-use Rattle.checkerboard.specs.Contracts.{boardTests, Drawing}
-use Rattle.checkerboard.specs.Most.{MostPatches, MostAtEverySize, DrawnExactly, Reserve, ReserveAtEverySize}
+use Rattle.checkerboard.specs.Most.{MostAtEverySize, DrawnExactly, ReserveAtEverySize}
 use Rattle.checkerboard.proofs.Refused.{board-passes}
 use Rattle.checkerboard.proofs.Board.{board-long, board-dark, board-even, joined-same, chosen, chosen-pair, chosen-even, chosen-only, chosen-in}
 

@@ -3,14 +3,14 @@ use Prim.Native.Nat.{ℕ, _*_, _≤_, _<_}
 use native.Mathlib.Decide.{decLt}
 use native.Mathlib.Omega.{arith}
 use mathlib.Core.Path.{_≡_, refl, sym, ap, ap₂, subst, _∙_}
-use mathlib.Core.List.{List, _++_, append-assoc}
+use mathlib.Core.List.{List, _++_}
 use mathlib.Core.Logic.{inl}
 use lib.ListN.{length, getD, List·getD-eq-default}
 use Rattle.base.specs.Loops.{table}
 use Rattle.base.proofs.Table.{table-at, length-table}
 use Rattle.blobs.specs.Patches.{PatchCount, patchAt}
 use Rattle.blobs.proofs.Unique.{count-unique, list-count}
-use Rattle.patch_text.specs.Text.{blank, feed, field, maskText, patchText, recordLines, Reads, Printed}
+use Rattle.patch_text.specs.Text.{blank, feed, field, maskText, patchText, recordLines, Reads}
 use Rattle.patch_text.specs.Text as patches
 use Rattle.patch_text.specs.Text.Answered.{accepted as listed, refused as unlisted}
 use Rattle.patch_text.proofs.Texts.{reads-unique}

@@ -5,10 +5,9 @@ use native.Mathlib.Decide.{decLt}
 use native.Mathlib.Omega.{arith}
 use mathlib.Core.Path.{_≡_, refl, sym, ap, ap₂, _∙_}
 use mathlib.Core.List.{List, [], _∷_, _++_, append-assoc}
-use mathlib.Core.Logic.{_⊎_, inl, inr}
 use lib.Dec.{eqb}
 use lib.ListN.{length, getD, take, drop, length-append, length-drop, List·getD-append}
-use lib.Seq.{take-at, drop-at, getD-at, split-at, take-suc, take-all, getD-drop, append-snoc, length-take-le}
+use lib.Seq.{take-at, drop-at, getD-at, split-at, take-suc, take-all, getD-drop}
 use borrow.Author.Tests.{eq-eqb, ne-eqb}
 use Rattle.base.proofs.Pick.{pick-yes, pick-no, cond-elim}
 use Rattle.patch_text.specs.Text.{blank, feed, decimal, field}

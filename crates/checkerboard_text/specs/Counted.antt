@@ -1,9 +1,9 @@
--- `patches` reads what `most_patches` prints: theorems that a reader can cite (requirements, 22.8). proofs/Counted shows
--- them. Assumes nothing.
-use Prim.Native.Nat.{ℕ, _≤_}
+-- `patches` reads what `most_patches` prints: a theorem that a reader can cite (requirements, 22.8). proofs/Counted
+-- shows it. Assumes nothing.
+use Prim.Native.Nat.{ℕ}
 use mathlib.Core.Path.{_≡_}
 use mathlib.Core.List.{List, _++_}
-use Rattle.patch_text.specs.Text.{blank, feed, field, maskText, Reads}
+use Rattle.patch_text.specs.Text.{blank, feed, field, Reads}
 use Rattle.patch_text.specs.Text as patches
 use Rattle.checkerboard.specs.Board.{board, reserved}
 use Rattle.checkerboard_text.specs.Text.{Asks, Answered}

@@ -1,4 +1,4 @@
-// What the programs `most_patches` and `most_patches_examples` run.
+// What the programs `most_patches` and `test_most_patches` run.
 use crate::print;
 use crate::read;
 ghost use mathlib.Core.Path.{_≡_};

@@ -24,7 +24,8 @@ fn byte_at(mask: &[u8], w: usize, h: usize, k: usize) -> u8
 // Writes the lines of a mask w by h.
 pub fn mask_text(mask: &[u8], w: usize, h: usize, out: &mut [u8]) -> usize
     requires { ⌜ (w ≤ 64) × (h ≤ 64) × (length (now mask) ≡ w * h) × (4160 ≤ length (now out)) ⌝ }
-    ensures { λ r. ⌜ (take r (now (out .exit)) ≡ maskText w h (now (mask .entry))) × (r ≤ length (now (out .exit))) ⌝ }
+    ensures { λ r. ⌜ (take r (now (out .exit)) ≡ maskText w h (now (mask .entry)))
+        × (r ≤ length (now (out .exit))) ⌝ }
 {
     let n = h * (w + 1);
     for k in 0..n {

@@ -1,6 +1,5 @@
 -- `test_most_patches::copy` meets its contract. The loop's invariant: as many bytes as fit, or all, are in both. Assumes nothing.
 use borrow.Author.Needs.{needs}
-use native.Mathlib.Omega.{arith}
 use Prim.Native.Nat.{_≤_, _-_}
 use mathlib.Core.Path.{_≡_}
 use lib.ListN.{length}

@@ -1,6 +1,5 @@
 -- `test_most_patches::first_line` meets its contract. The loop's invariant: it goes to the end of the text. Assumes nothing.
 use borrow.Author.Needs.{needs}
-use native.Mathlib.Omega.{arith}
 use Prim.Native.Nat.{_≤_, _-_}
 use mathlib.Core.Path.{_≡_}
 use lib.ListN.{length}

@@ -1,9 +1,11 @@
 -- `checkerboard_text::read::board_size` meets its contract. Assumes nothing.
 use native.Mathlib.Omega.{arith}
+use Prim.Native.Nat.{ℕ}
+use mathlib.Core.List.{List}
 use mathlib.Core.Path.{_≡_, sym, ap, subst, _∙_}
 use borrow.Author.Needs.{needs}
 use denote.Ref.{now}
-use lib.ListN.{length, getD}
+use lib.ListN.{getD}
 use lib.Seq.{length-take-le}
 use Rattle.checkerboard_text.specs.Steps.{Side, blankPlace}
 use Rattle.checkerboard_text.proofs.Sizes.{front, middle, place-some, asks-long, asks-letter, asks-last, no-size, no-width, no-height, size-is}
@@ -80,27 +82,38 @@ side-requires-2 c κs = search needs
 none-requires-4 : tie.Need-none-requires-4
 none-requires-4 c κs = search needs
 
+-- what the two sides were read as
+module _ (c : tie.After-side2) where
+  abbrev text : List ℕ
+  text = now (c .before .before .before .before .before .before .before .before .before .before .before .args .text)
+
+  abbrev found : c .before .before .before .before .before .before .before .before .blank-place .result ≡ blankPlace text
+  found = c .before .before .before .before .before .before .before .before .blank-place .ensures
+
+  width : Side (front text (blankPlace text)) (c .before .before .side .result)
+  width = subst (λ i. Side (front text i) (c .before .before .side .result)) found (c .before .before .side .ensures)
+
+  height : Side (middle text (blankPlace text)) (c .side2 .result)
+  height = subst (λ i. Side (middle text i) (c .side2 .result)) found (c .side2 .ensures)
+
 returns-4 : tie.Need-returns-4
 returns-4 c =
-    let b = now (c .before .before .before .before .before .before .before .before .before .before .before .before .before .args .text) in
-    let e = c .before .before .before .before .before .before .before .before .before .before .blank-place .ensures in
-    no-size (no-width (subst (λ i. Side (front b i) (c .before .before .before .before .side .result)) e (c .before .before .before .before .side .ensures)) (subst (λ i. Side (middle b i) (c .before .before .side2 .result)) e (c .before .before .side2 .ensures)) (c .before .if4 .taken)) (c .none4 .ensures .0)
+    let s = c .before .before in
+    no-size (no-width (width s) (height s) (c .before .if4 .taken)) (c .none4 .ensures .0)
 
 none-requires-5 : tie.Need-none-requires-5
 none-requires-5 c κs = search needs
 
 returns-5 : tie.Need-returns-5
 returns-5 c =
-    let b = now (c .before .before .before .before .before .before .before .before .before .before .before .before .before .before .args .text) in
-    let e = c .before .before .before .before .before .before .before .before .before .before .before .blank-place .ensures in
-    no-size (no-height (subst (λ i. Side (front b i) (c .before .before .before .before .before .side .result)) e (c .before .before .before .before .before .side .ensures)) (subst (λ i. Side (middle b i) (c .before .before .before .side2 .result)) e (c .before .before .before .side2 .ensures)) (c .before .if5 .taken)) (c .none5 .ensures .0)
+    let s = c .before .before .before in
+    no-size (no-height (width s) (height s) (c .before .if5 .taken)) (c .none5 .ensures .0)
 
 returns-6 : tie.Need-returns-6
 returns-6 c =
-    let b = now (c .before .before .before .before .before .before .before .before .before .before .before .before .before .args .text) in
-    let e = c .before .before .before .before .before .before .before .before .before .before .blank-place .ensures in
-    size-is (subst (λ i. Side (front b i) (c .before .before .before .before .side .result)) e (c .before .before .before .before .side .ensures)) (subst (λ i. Side (middle b i) (c .before .before .side2 .result)) e (c .before .before .side2 .ensures)) (omega (arith, c .before .before .before .before .before .before .before .before .before .before .before .if1 .left))
-    (ap (λ i. getD b i 0) (sym e) ∙ c .before .before .before .before .before .before .before .before .if2 .left) (c .before .before .before .before .before .before .if3 .left) (c .before .if4 .left) (c .if5 .left)
+    let s = c .before .before in
+    size-is (width s) (height s) (omega (arith, s .before .before .before .before .before .before .before .before .before .if1 .left)) (ap (λ i. getD (text s) i 0) (sym (found s)) ∙ s .before .before .before .before .before .before .if2 .left)
+    (s .before .before .before .before .if3 .left) (c .before .if4 .left) (c .if5 .left)
 
 pub board-size-spec : {M : Type 1} → statement M
 board-size-spec =
