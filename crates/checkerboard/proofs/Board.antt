@@ -21,7 +21,7 @@ use Rattle.checkerboard.specs.Board.{square, squareAt, board, reserved}
 
 -- ---- one pixel
 
--- column plus row
+-- column plus row: the steps from pixel to pixel that lead to it from the first
 abbrev steps : ℕ → ℕ → ℕ
 steps w i = i % w + i / w
 

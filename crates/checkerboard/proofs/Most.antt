@@ -9,10 +9,10 @@ use lib.ListN.{length, getD, take}
 use Rattle.base.specs.Loops.{table}
 use Rattle.base.proofs.Arith.{le-or-lt}
 use Rattle.base.proofs.Table.{table-at, length-table, take-filled}
-use Rattle.frame.specs.Refusals.{numberOf, verdictOf, lowestOf}
+use Rattle.frame.specs.Refusals.{lowestOf}
 use Rattle.frame.specs.declared.Verdict.{Verdict}
 use Rattle.frame.specs.declared.Verdict.the-variants.{Accepted}
-use Rattle.frame.proofs.Given.{verdict-number}
+use Rattle.frame.proofs.Given.{accepted-zero}
 use Rattle.frame.proofs.Held.{sides-held}
 use Rattle.blobs.specs.Areas.{PatchAreas}
 use Rattle.blobs.specs.Contracts.{labelTests, Labelling}
@@ -66,13 +66,9 @@ pub most-patches : MostAtEverySize
 most-patches w h o p = record { exactly = board-count w h o; none-more = mask-few w h o }
 
 -- ---- what is drawn
-accepted-tests : (v : Verdict) (n : ℕ) → v ≡ verdictOf n → v ≡ Accepted → n ≡ 0
-unfolding numberOf
-accepted-tests v n g e = sym (verdict-number n) ∙ ap numberOf (sym g ∙ e)
-
 pub drawn-exactly : DrawnExactly
 drawn-exactly w h mask mask′ v d e =
-    let z = accepted-tests v _ (d .given) e in
+    let z = accepted-zero (d .given) e in
     let p = board-passes w h (length mask) z in
     let s = sides-held w h (p .0) in
     let t : take (w * h) mask′ ≡ board w h = ap (take (w * h)) (d .accepted z) ∙ take-filled (squareAt w) (w * h) 0 mask (p .1) in
@@ -89,7 +85,7 @@ labelled-few w h m before after v n waited l = ⊎-elim
 
 board-labelled : (w h : ℕ) (before after : PatchAreas) (v : Verdict) (n waited : ℕ) → Labelling (board w h) w h before after v n waited → v ≡ Accepted → n ≡ reserved w h
 board-labelled w h before after v n waited l e =
-    let z = accepted-tests v _ (l .given) e in
+    let z = accepted-zero (l .given) e in
     let p = passes w h (length (board w h)) _ _ _ z in
     count-unique (board w h) w (list-count (board w h) w (l .accepted z .records)) (board-count w h (sides-held w h (p .0) .w-least))
 

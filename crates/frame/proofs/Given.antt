@@ -1,10 +1,11 @@
 -- Answers from the tests' number. Assumes nothing.
-use mathlib.Core.Path.{_≡_, refl, sym}
+use mathlib.Core.Path.{_≡_, refl, sym, ap, _∙_}
 use mathlib.Core.List.{List}
 use Prim.Native.Nat.{ℕ, zero, suc}
 use Rattle.frame.specs.Refusals.{Check, lowestOf, verdictOf, numberOf}
 use Rattle.frame.specs.Answers.{numberRefusal, numberValue, numberAs, numberFor, framedRefusal, framedValue, framedAs, framedFor}
 use Rattle.frame.specs.declared.FrameSpec.{FrameSpec}
+use Rattle.frame.specs.declared.Verdict.{Verdict}
 use Rattle.frame.specs.declared.Verdict.the-variants as D
 use Rattle.frame.specs.declared.Number.the-variants as N
 use Rattle.frame.specs.declared.Framed.the-variants as F
@@ -54,6 +55,10 @@ pub verdict-number : (n : ℕ) → numberOf (verdictOf n) ≡ n
 unfolding numberOf verdictOf
 verdict-number zero = refl
 verdict-number (suc n) = refl
+
+pub accepted-zero : {v : Verdict} {n : ℕ} → v ≡ verdictOf n → v ≡ D.Accepted → n ≡ 0
+unfolding numberOf
+accepted-zero {v} {n} g e = sym (verdict-number n) ∙ ap numberOf (sym g ∙ e)
 
 pub number-number : (n v : ℕ) → numberRefusal (numberAs n v) ≡ n
 unfolding numberRefusal numberAs

@@ -6,10 +6,10 @@ use native.Mathlib.Omega.{arith}
 use borrow.Author.Tests.{eqb-true, eqb-false}
 use lib.Dec.{eqb}
 use Rattle.frame.specs.Image.{Image}
-use Rattle.frame.specs.Refusals.{numberOf, verdictOf, lowestOf}
+use Rattle.frame.specs.Refusals.{verdictOf, lowestOf}
 use Rattle.frame.specs.declared.FrameSpec.{FrameSpec}
 use Rattle.frame.specs.declared.Verdict.the-variants.{Accepted}
-use Rattle.frame.proofs.Given.{verdict-number}
+use Rattle.frame.proofs.Given.{accepted-zero}
 use Rattle.candidates.proofs.Determined as look
 use Rattle.candidates.proofs.Refusing.{rising, upto-six}
 use Rattle.fit.specs.Contracts.{MeansKept}
@@ -61,8 +61,7 @@ fitting img f {a} {b} h other =
     rest (high x) = h .refused x .means-rest
 
 pub accepted-number : (img : Image) (f : FrameSpec) {a b : Lent} {r : PictureFit} (h : Rectification img f a b r) → r .verdict ≡ Accepted → h .number ≡ 0
-unfolding numberOf
-accepted-number img f h v = sym (verdict-number (h .number)) ∙ ap numberOf (sym (h .given) ∙ v)
+accepted-number img f h v = accepted-zero (h .given) v
 
 -- no test refuses an accepted one
 pub unrefused : (img : Image) (f : FrameSpec) {a b : Lent} {r : PictureFit} (h : Rectification img f a b r) → h .number ≡ 0 → lowestOf (rectifyTests img f a) ≡ 0

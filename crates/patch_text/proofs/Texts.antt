@@ -10,11 +10,10 @@ use mathlib.Core.List.{List, [], _∷_, _++_}
 use mathlib.Core.Logic.{_⊎_, inl, inr, ⊎-elim}
 use lib.Arith.{digits-div, digits-mod}
 use lib.Dec.{eqb}
-use lib.ListN.{length, getD, take, length-append, List·getD-append, List·getD-eq-default}
-use lib.Seq.{ext-getD, getD-at, getD-take, length-take-le}
+use lib.ListN.{length, getD, length-append, List·getD-append, List·getD-eq-default}
+use lib.Seq.{ext-getD, getD-at}
 use borrow.Author.Tests.{eqb-true, eq-eqb, ne-eqb, le-leb}
-use Rattle.base.specs.Loops.{table, byRow, filled}
-use Rattle.base.proofs.Plane.{length-filled, filled-at}
+use Rattle.base.specs.Loops.{table, byRow}
 use Rattle.frame.specs.Refusals.{side, sidesWrong}
 use Rattle.base.proofs.Pick.{pick-yes, pick-no, cond-elim}
 use Rattle.base.proofs.Tests.{and-left, and-right, and-both, or-cases}
@@ -382,13 +381,6 @@ unfolding sidesWrong side
 reads-sides {b} {w} {h} r =
     ap not
     (and-both _ _ (and-both _ _ (le-leb 1 w (r .wide)) (le-leb w 4096 (omega (arith, r .narrow)))) (and-both _ _ (le-leb 1 h (r .high)) (le-leb h 4096 (omega (arith, r .low)))))
-
--- the start of a filled area is the table
-pub take-filled : (f : ℕ → ℕ) (n : ℕ) (l k : List ℕ) → n ≤ length l → k ≡ filled f n l → take n k ≡ table f n
-take-filled f n l k h e =
-    let long : length k ≡ length l = ap length e ∙ length-filled f l n in
-    ext-getD 0 (take n k) (table f n) (length-take-le n k (omega arith) ∙ sym (length-table f n))
-    (λ i b. let c : i < n = omega (arith, length-take-le n k (omega arith)) in getD-take n k i 0 c ∙ ap (λ x. getD x i 0) e ∙ filled-at f l n i 0 c h ∙ sym (table-at f n i 0 c))
 
 -- ---- a text is one mask
 letter-one : (a b : ℕ) → a ≤ 1 → b ≤ 1 → letter a ≡ letter b → a ≡ b

@@ -124,6 +124,16 @@ fn most_patches() {
         let found = ws.patches().last().unwrap();
         assert_eq!((found.area, found.y0 * w as u64 + found.x0), (1, last));
     }
+    // Every mask of up to 16 pixels: none has more, and some has as many.
+    for (w, h) in (1..=16).flat_map(|w| (1..=16 / w).map(move |h| (w, h))) {
+        let mut ws = Workspace::new(w, h, SMALL).unwrap();
+        let count = |dark: u32| {
+            let mask: Vec<u8> = (0..w * h).map(|i| (dark >> i & 1) as u8).collect();
+            ws.label_blobs(&mask).unwrap();
+            ws.patches().len()
+        };
+        assert_eq!((0..1 << (w * h)).map(count).max(), Some((w * h).div_ceil(2)), "{w} by {h}");
+    }
     // A longer mask keeps its rest, and a refused one all of it.
     for (w, h, number, wanted) in [(2, 2, 0, [1, 0, 0, 1, 9]), (0, 5, 2, [9; 5]), (4097, 5, 2, [9; 5]), (2, 3, 3, [9; 5])] {
         let mut mask = [9; 5];

@@ -1,19 +1,20 @@
 -- `patch_text::internal::answer_text` meets its contract. Assumes nothing.
 use Prim.Native.Nat.{_*_, _≤_}
 use native.Mathlib.Omega.{arith}
-use mathlib.Core.Path.{_≡_, sym, subst}
+use mathlib.Core.Path.{_≡_, sym, ap, subst, _∙_}
 use denote.Ref.{now}
 use borrow.Author.Needs.{needs}
 use lib.ListN.{length, take}
 use lib.Seq.{length-take-le}
 use Rattle.base.specs.Loops.{table}
+use Rattle.base.proofs.Table.{take-filled}
 use Rattle.blobs.specs.Areas.{patchAreas}
 use Rattle.blobs.specs.Labels.{Labels}
 use Rattle.blobs.proofs.Refused.{long-enough}
 use Rattle.patch_text.specs.Text.{Reads}
 use Rattle.patch_text.specs.Text.Answered.{accepted, refused}
 use Rattle.patch_text.specs.Steps.{pixelAt}
-use Rattle.patch_text.proofs.Texts.{reads-length, reads-area, reads-sides, take-filled}
+use Rattle.patch_text.proofs.Texts.{reads-length, reads-area, reads-sides}
 use Rattle.patch_text.proofs.internal.answer_text.Statement.{statement}
 use Rattle.patch_text.proofs.internal.answer_text.Tie as tie
 
@@ -31,10 +32,10 @@ part : (c : tie.After-slice-known7) → take (c .before .before .before .before 
     .before .before .before .before .before .mask-size .result .h)
 part c =
     let a = c .before .before .before .before .before .before .before .before .before .before .before .before in
-    take-filled (pixelAt (now (a .args .text)) (c .before .before .before .before .before .mask-size .result .w)) (c .before .before .before
-    .before .before .mask-size .result .w * c .before .before .before .before .before .mask-size .result .h) (now (a .args .mask))
-    (c .before .before .fill .last .1 .1 .1 .0)
-    (omega (arith, reads-area (reads (c .before .before .before .before)), a .pre .0)) (c .before .before .fill .ensures)
+    let s = c .before .before .before .before .before .mask-size .result in
+    ap (take (s .w * s .h)) (c .before .before .fill .ensures)
+    ∙ take-filled (pixelAt (now (a .args .text)) (s .w)) (s .w * s .h) 0 (now (a .args .mask))
+    (omega (arith, reads-area (reads (c .before .before .before .before)), a .pre .0))
 
 long : (c : tie.After-slice-known7) → c .before .before .before .before .before .mask-size .result .w * c .before .before .before .before
     .before .mask-size .result .h ≤ length (c .before .before .fill .last .1 .1 .1 .0)
