@@ -1,6 +1,6 @@
 //! Functions of numbers, compared one call at a time; the checkerboard, the candidate page and the book of fits with definitions of
-//! their own (`boards`, `pages`, `books`). A call is its name and 64-bit words, so that a file can hold it; `luma` has no words, and is compared on
-//! every three bytes at once.
+//! their own (`boards`, `pages`, `books`). A call is its name and 64-bit words, so that a file can hold it; `luma` has no words, and is
+//! compared on every three bytes at once.
 
 use crate::original as o;
 use crate::{bits, boards, books, luma, pages, sampled};

@@ -1,11 +1,11 @@
 -- `checkerboard_text::read::board_size` meets its contract. Assumes nothing.
 use native.Mathlib.Omega.{arith}
-use Prim.Native.Nat.{ℕ}
+use Prim.Native.Nat.{ℕ, _+_, _≤_}
 use mathlib.Core.List.{List}
 use mathlib.Core.Path.{_≡_, sym, ap, subst, _∙_}
 use borrow.Author.Needs.{needs}
 use denote.Ref.{now}
-use lib.ListN.{getD}
+use lib.ListN.{length, getD}
 use lib.Seq.{length-take-le}
 use Rattle.checkerboard_text.specs.Steps.{Side, blankPlace}
 use Rattle.checkerboard_text.proofs.Sizes.{front, middle, place-some, asks-long, asks-letter, asks-last, no-size, no-width, no-height, size-is}
@@ -55,23 +55,25 @@ slice-aggregate-side c =
 side-requires : tie.Need-side-requires
 side-requires c κs = search needs
 
-add-side : tie.Need-add-side
-add-side c =
+-- the blank stands before the last byte
+blank-early : (c : tie.After-side) → c .before .before .before .before .before .before .blank-place .result + 2 ≤ length (now
+    (c .before .before .before .before .before .before .before .before .before .args .text))
+blank-early c =
     let b = now (c .before .before .before .before .before .before .before .before .before .args .text) in
-    omega (arith, c .before .before .before .before .before .before .blank-place .ensures, place-some b .1, c .before .before .before .before .before .before .before .if1 .left)
+    let e = c .before .before .before .before .before .before .blank-place .ensures in
+    omega (arith, e, place-some b .1, c .before .before .before .before .before .before .before .if1 .left)
+
+add-side : tie.Need-add-side
+add-side c = omega (arith, blank-early c)
 
 sub-side : tie.Need-sub-side
 sub-side c = search needs
 
 sub-side-2 : tie.Need-sub-side-2
-sub-side-2 c =
-    let b = now (c .before .before .before .before .before .before .before .before .before .args .text) in
-    omega (arith, c .before .before .before .before .before .before .blank-place .ensures, place-some b .1, c .before .before .before .before .before .before .before .if1 .left)
+sub-side-2 c = omega (arith, blank-early c)
 
 part-side-start : tie.Need-part-side-start
-part-side-start c =
-    let b = now (c .before .before .before .before .before .before .before .before .before .args .text) in
-    omega (arith, c .before .before .before .before .before .before .blank-place .ensures, place-some b .1, c .before .before .before .before .before .before .before .if1 .left)
+part-side-start c = omega (arith, blank-early c)
 
 part-side-end : tie.Need-part-side-end
 part-side-end c = search needs
@@ -112,8 +114,12 @@ returns-5 c =
 returns-6 : tie.Need-returns-6
 returns-6 c =
     let s = c .before .before in
-    size-is (width s) (height s) (omega (arith, s .before .before .before .before .before .before .before .before .before .if1 .left)) (ap (λ i. getD (text s) i 0) (sym (found s)) ∙ s .before .before .before .before .before .before .if2 .left)
-    (s .before .before .before .before .if3 .left) (c .before .if4 .left) (c .if5 .left)
+    size-is (width s) (height s)
+    (omega (arith, s .before .before .before .before .before .before .before .before .before .if1 .left))
+    (ap (λ i. getD (text s) i 0) (sym (found s)) ∙ s .before .before .before .before .before .before .if2 .left)
+    (s .before .before .before .before .if3 .left)
+    (c .before .if4 .left)
+    (c .if5 .left)
 
 pub board-size-spec : {M : Type 1} → statement M
 board-size-spec =
