@@ -1,8 +1,9 @@
-// What the programs `patches` and `test_patches` run, and the refusal for the program
-// `most_patches`.
+// What the programs `patches` and `test_patches` run; for `most_patches` and its test program the
+// text of a refusal and the length of a line.
 use crate::print;
 pub use crate::print::refused;
 use crate::read;
+pub use crate::read::line_length;
 ghost use mathlib.Core.Path.{_≡_};
 ghost use Prim.Native.Nat.{_≤_};
 ghost use lib.ListN.{length, take};

@@ -12,7 +12,7 @@ pub struct Size {
 }
 
 // The place of the first line feed, or the length where there is none.
-fn line_length(text: &[u8]) -> usize
+pub fn line_length(text: &[u8]) -> usize
     ensures { λ r. ⌜ FirstFeed (now (text .entry)) r ⌝ }
 {
     let mut i = 0;

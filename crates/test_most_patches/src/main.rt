@@ -2,8 +2,10 @@
 // function, and has what it prints read as the program `patches` reads it.
 // host/vectors/most_patches.py says what stdin and stdout hold, and how to make them again.
 use base::min;
-ghost use Prim.Native.Nat.{_≤_};
-ghost use lib.ListN.{length};
+ghost use mathlib.Core.Path.{_≡_};
+ghost use Prim.Native.Nat.{ℕ, min};
+ghost use lib.ListN.{length, getD};
+ghost use Rattle.base.specs.Loops.{filled};
 
 // An input at a time, to the end of stdin. None is longer than 255 bytes.
 fn main() {
@@ -50,29 +52,18 @@ fn count(text: &[u8]) {
 }
 
 fn print_line(text: &[u8]) {
-    let end = first_line(text);
+    let end = min(patch_text::internal::line_length(text) + 1, text.len());
     io::write_all(1, &text[..end]);
 }
 
 // Of a text as much as a program reads: as many bytes as fit, or all.
 fn copy(text: &[u8], input: &mut [u8]) -> usize
-    ensures { λ r. ⌜ r ≤ length (now (input .exit)) ⌝ }
+    ensures { λ r. ⌜ (r ≡ min (length (now (text .entry))) (length (now (input .entry))))
+        × (now (input .exit) ≡ filled (λ (i : ℕ). getD (now (text .entry)) i 0) r (now (input .entry))) ⌝ }
 {
     let n = min(text.len(), input.len());
     for i in 0..n {
         input[i] = text[i];
     }
     n
-}
-
-// The length of a text's first line, with its line feed.
-fn first_line(text: &[u8]) -> usize
-    ensures { λ r. ⌜ r ≤ length (now (text .entry)) ⌝ }
-{
-    for i in 0..text.len() {
-        if text[i] == b'\n' {
-            return i + 1;
-        }
-    }
-    text.len()
 }

@@ -1,13 +1,21 @@
--- `test_most_patches::copy` meets its contract. The loop's invariant: as many bytes as fit, or all, are in both. Assumes nothing.
+-- `test_most_patches::copy` meets its contract. The loop's invariant: the first i bytes are copied. Assumes nothing.
 use borrow.Author.Needs.{needs}
-use Prim.Native.Nat.{_≤_, _-_}
-use mathlib.Core.Path.{_≡_}
-use lib.ListN.{length}
+use Prim.Native.Nat.{ℕ, _≤_, _-_}
+use native.Mathlib.Omega.{arith}
+use mathlib.Core.Path.{_≡_, refl}
+use lib.ListN.{length, length-set, getD}
+use Rattle.base.specs.Loops.{filled}
+use Rattle.base.proofs.Plane.{filled-begin, filled-step, filled-end}
 use Rattle.test_most_patches.proofs.copy.Statement.{statement}
 use Rattle.test_most_patches.proofs.copy.Tie as tie
 
 abbrev Inv-loop : tie.InvT-loop
-Inv-loop text input₀ n i₀ input i = (i ≤ n) × (n ≤ length text) × (n ≤ length input₀) × (length input ≡ length input₀)
+Inv-loop text input₀ n i₀ input i =
+    (input ≡ filled (λ (k : ℕ). getD text k 0) i input₀)
+    × (i ≤ n)
+    × (n ≤ length text)
+    × (n ≤ length input₀)
+    × (length input ≡ length input₀)
 
 abbrev μ-loop : tie.MeasureT-loop
 μ-loop text input₀ n i₀ input i = n - i
@@ -16,7 +24,7 @@ min-requires : tie.Need-min-requires Inv-loop μ-loop
 min-requires c κs = search needs
 
 loop-holds : tie.Need-loop-holds Inv-loop μ-loop
-loop-holds c = search needs
+loop-holds c = (filled-begin _ _, omega arith, omega arith, omega arith, refl)
 
 shared-slice-read-input : tie.Need-shared-slice-read-input Inv-loop μ-loop
 shared-slice-read-input c = search needs
@@ -31,13 +39,18 @@ loop-less : tie.Need-loop-less Inv-loop μ-loop
 loop-less c = search needs
 
 loop-again : tie.Need-loop-again Inv-loop μ-loop
-loop-again c = search needs
+loop-again c =
+    let v = c .before .before .loop .inv in
+    (filled-step _ _ _ _ (v .0) refl, omega arith, v .2, v .3, simp length-set (v .4))
 
 same-length : tie.Need-same-length Inv-loop μ-loop
 same-length c = search needs
 
 returns : tie.Need-returns Inv-loop μ-loop
-returns c = search needs
+returns c =
+    let v = c .before .loop .inv in
+    let e : c .before .loop .i ≡ c .before .before .min .result = omega arith in
+    (c .before .before .min .ensures, filled-end _ _ _ _ (v .0) e)
 
 pub copy-spec : {M : Type 1} → statement M
 copy-spec =
