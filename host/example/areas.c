@@ -97,9 +97,11 @@ int main(void)
     paged(&a);
     lumas(&a);
     boards(&a);
+    a.counts[TABLET_BEYOND] = 9;
     assert(tablet_areas_fit(&a, SIDE, SIDE, FRAME) == 0);
     assert(tablet_areas_rectify(&b, SIDE, SIDE, FRAME) == 0);
-    assert(memcmp(a.fit, b.fit, sizeof a.fit) == 0 && memcmp(a.counts, b.counts, sizeof a.counts) == 0);
+    assert(memcmp(a.fit, b.fit, sizeof a.fit) == 0 && memcmp(a.counts, b.counts, TABLET_FITTED_LEN * sizeof *a.counts) == 0);
+    assert(a.counts[TABLET_BEYOND] == 9);
     assert(b.fit[TABLET_SCORE] > 0.0 && b.counts[TABLET_GRADE] == TABLET_SCORED);
     assert(a.canonical[0] == 0xa5 && b.canonical[0] != 0xa5);
     assert(memcmp(a.candidates, b.candidates, 4 * TABLET_CANDIDATE_LEN * sizeof *a.candidates) == 0);
@@ -107,8 +109,11 @@ int main(void)
 
     /* The card again, by the plain function and the fit. */
     static uint8_t card[3 * SIDE * SIDE];
-    assert(tablet_warp_with(photo, sizeof photo, SIDE, SIDE, FRAME, a.fit, TABLET_FIT_LEN, card, sizeof card) == 0);
-    assert(memcmp(card, b.canonical, sizeof card) == 0);
+    uint64_t beyond[TABLET_WARPED_LEN + 1] = {9, 9};
+    assert(tablet_warp_with(photo, sizeof photo, SIDE, SIDE, FRAME, a.fit, TABLET_FIT_LEN, card, sizeof card, beyond, 0) == 3);
+    assert(beyond[0] == 9 && card[0] == 0);
+    assert(tablet_warp_with(photo, sizeof photo, SIDE, SIDE, FRAME, a.fit, TABLET_FIT_LEN, card, sizeof card, beyond, 2) == 0);
+    assert(memcmp(card, b.canonical, sizeof card) == 0 && beyond[0] == b.counts[TABLET_BEYOND] && beyond[1] == 9);
 
     /* A refusal's number comes through. */
     a.capture_len = 1;

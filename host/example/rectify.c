@@ -37,6 +37,8 @@ int main(void)
         printf("candidates %u\n", (unsigned)areas.counts[TABLET_CANDIDATES]);
         printf("trials %u, homographies %u\n", (unsigned)areas.counts[TABLET_TRIALS], (unsigned)areas.counts[TABLET_HOMOGRAPHIES]);
         printf("scored %s\n", areas.counts[TABLET_GRADE] == TABLET_SCORED ? "yes" : "no");
+        /* Pixels of the card that lie beyond the picture's edge: they look real, and are not the card's. */
+        printf("beyond %u\n", (unsigned)areas.counts[TABLET_BEYOND]);
         /* A marker has a black dot at its centre. */
         const uint8_t *p = areas.canonical + 3 * (24 * WIDTH + 24);
         printf("card at 24, 24: %u %u %u\n", p[0], p[1], p[2]);

@@ -29,9 +29,10 @@
  *
  * A capture is w * h pixels of three bytes, red, green, blue, by rows: exactly 3 * w * h bytes. So is the canonical image:
  * exactly 3 * width * height. The frame is width, height, cell and margin, in canonical pixels. Positions are in pixels from
- * the upper left corner of the picture; the centre of its first pixel is (0.5, 0.5). Points are x, y of TL, TR, BR, BL. A
- * matrix is by rows. A lens is k, cx, cy, norm. A fit is a matrix and then a lens. Each function names the number of entries of
- * its slices by the names below.
+ * the upper left corner of the picture; the centre of its first pixel is (0.5, 0.5). A position is inside the picture where
+ * 0 <= x, 0 <= y, x < w and y < h: -0 is inside, w, h, an infinity and a NaN in either are not. Points are x, y of TL, TR, BR,
+ * BL. A matrix is by rows. A lens is k, cx, cy, norm. A fit is a matrix and then a lens. Each function names the number of
+ * entries of its slices by the names below.
  *
  * Work areas may be longer than needed; what lies past the lengths that tablet_lengths gives is never written. Their contents
  * before a call change no answer. After acceptance, and after a refusal by 7 to 10 or by tablet_rectify's 16, they hold
@@ -49,6 +50,10 @@
  * card's, nor which way up the card lies: README.md, "When not to trust a card". host/flatten/src/phase.rs has a sign of both
  * that a caller can work out from the canonical image, to go with the score.
  *
+ * Nor does it say that the whole card is in the photograph. Where a pixel of the card lies beyond the picture's edge it is given the
+ * colour of the edge, so that a card that leaves the photograph has smeared borders that look real. How many such pixels there are
+ * is told by tablet_rectify (TABLET_BEYOND), tablet_warp_with and tablet_warp_record: 0 where the whole card is in the picture.
+ *
  * struct tablet_areas, at the end, holds all slices of a call, so that a caller writes one argument for them.
  */
 #ifndef TABLET_H
@@ -64,17 +69,19 @@ extern "C" {
 /* Numbers of entries: of slices handed in at least so many, of results exactly what is filled. */
 enum {
     TABLET_LENGTHS_LEN = 11, /* of tablet_lengths */
-    TABLET_COUNTS_LEN = 11,
+    TABLET_COUNTS_LEN = 12, /* counts of tablet_rectify */
+    TABLET_FITTED_LEN = 11, /* counts of tablet_fit_geometry */
     TABLET_DETECTED_LEN = 7, /* counts of tablet_detect_fiducials */
     TABLET_LISTED_LEN = 3, /* counts of tablet_fiducial_candidates */
     TABLET_LABELLED_LEN = 2, /* counts of tablet_label_blobs */
+    TABLET_WARPED_LEN = 1, /* counts of tablet_warp_with and tablet_warp_record */
     TABLET_SCORED_FIT_LEN = 14, /* a fit and its score */
     TABLET_FIT_LEN = 13,
     TABLET_MATRIX_LEN = 9,
     TABLET_LENS_LEN = 4,
     TABLET_POINTS_LEN = 8,
     TABLET_POINT_LEN = 2,
-    TABLET_COLOUR_LEN = 3,
+    TABLET_COLOUR_LEN = 4, /* of tablet_bilinear */
     TABLET_GRADE_LEN = 2, /* of tablet_grid_score */
     TABLET_MARKER_NUMBERS_LEN = 3,
     TABLET_GRID_LEN = 2,
@@ -87,9 +94,10 @@ enum {
     TABLET_BOOK_MOST_RECORDS = 35791393 /* the length of a longer book does not fit its header */
 };
 
-/* Entries of the counts. tablet_fiducial_candidates fills the first three, tablet_detect_fiducials the first seven. They are
- * filled on acceptance and on a refusal by 7 to 10 or 16. After 7 to 10 what there is not to tell is 0, and the grade
- * TABLET_NO_GRADE; after 16 the places are 0, and the grade is TABLET_OUTSIDE or TABLET_TOO_FEW. */
+/* Entries of the counts. tablet_fiducial_candidates fills the first three, tablet_detect_fiducials the first seven,
+ * tablet_fit_geometry the first eleven and tablet_rectify all twelve. They are filled on acceptance and on a refusal by 7 to 10 or
+ * 16. After 7 to 10 what there is not to tell is 0, and the grade TABLET_NO_GRADE; after 16 the places and TABLET_BEYOND are 0, and
+ * the grade is TABLET_OUTSIDE or TABLET_TOO_FEW. */
 enum {
     TABLET_PATCHES = 0,
     TABLET_CANDIDATES = 1,
@@ -101,8 +109,9 @@ enum {
     TABLET_TRIALS = 7,
     TABLET_HOMOGRAPHIES = 8,
     TABLET_GRADE = 9, /* of the kept trial */
-    TABLET_OUTSIDE_CELL = 10 /* where the grade is TABLET_OUTSIDE the first sampled cell, by row, then column, that has a tap
-                              * outside the picture: row * cols + column, over all cells; else 0 */
+    TABLET_OUTSIDE_CELL = 10, /* where the grade is TABLET_OUTSIDE the first sampled cell, by row, then column, that has a tap
+                               * outside the picture: row * cols + column, over all cells; else 0 */
+    TABLET_BEYOND = 11 /* how many pixels of the card were read from beyond the picture's edge: their positions are not inside */
 };
 
 /* Grades. */
@@ -141,7 +150,8 @@ uint32_t tablet_rectify(const uint8_t *capture, size_t capture_len, size_t w, si
                         double *means, size_t means_len, uint8_t *canonical, size_t canonical_len,
                         uint64_t *counts, size_t counts_len, double *fit, size_t fit_len);
 
-/* The fit alone, unscored ones too. 1, 2, 3, 5 to 10. counts: TABLET_COUNTS_LEN; fit: TABLET_SCORED_FIT_LEN. */
+/* The fit alone, unscored ones too. 1, 2, 3, 5 to 10. counts: TABLET_FITTED_LEN, and the rest of a longer one stays as it was;
+ * fit: TABLET_SCORED_FIT_LEN. */
 uint32_t tablet_fit_geometry(const uint8_t *capture, size_t capture_len, size_t w, size_t h,
                              size_t width, size_t height, size_t cell, size_t margin,
                              float *luma, size_t luma_len, double *integral, size_t integral_len,
@@ -192,17 +202,19 @@ uint32_t tablet_grid_score(const uint8_t *capture, size_t capture_len, size_t w,
                            const double *fit, size_t fit_len, double *means, size_t means_len,
                            uint64_t *grade, size_t grade_len, double *score, size_t score_len);
 
-/* The card under a known fit. 1, 2, 3 (fit), 4. fit: TABLET_FIT_LEN. */
+/* The card under a known fit. 1, 2, 3 (fit, counts), 4. fit: TABLET_FIT_LEN; counts: TABLET_WARPED_LEN, filled on acceptance only:
+ * how many pixels of the card were read from beyond the picture's edge, as TABLET_BEYOND. */
 uint32_t tablet_warp_with(const uint8_t *capture, size_t capture_len, size_t w, size_t h,
                           size_t width, size_t height, size_t cell, size_t margin,
-                          const double *fit, size_t fit_len, uint8_t *canonical, size_t canonical_len);
+                          const double *fit, size_t fit_len, uint8_t *canonical, size_t canonical_len,
+                          uint64_t *counts, size_t counts_len);
 
 /* The card under the fit of a book's record, by its grade (any but TABLET_SCORED gives 16) and the bit patterns of the fit's f64, as
- * tablet_read_book leaves them. 1, 2, 3 (numbers), 4, 16. numbers: TABLET_FIT_LEN. */
+ * tablet_read_book leaves them. 1, 2, 3 (numbers, counts), 4, 16. numbers: TABLET_FIT_LEN; counts as of tablet_warp_with. */
 uint32_t tablet_warp_record(const uint8_t *capture, size_t capture_len, size_t w, size_t h,
                             size_t width, size_t height, size_t cell, size_t margin,
                             uint32_t grade, const uint64_t *numbers, size_t numbers_len,
-                            uint8_t *canonical, size_t canonical_len);
+                            uint8_t *canonical, size_t canonical_len, uint64_t *counts, size_t counts_len);
 
 /* Draws the four markers into an image of w by h, clipped to it. 1, 2, 5. */
 uint32_t tablet_stamp_fiducials(uint8_t *image, size_t image_len, size_t w, size_t h,
@@ -237,7 +249,8 @@ uint32_t tablet_radial(size_t w, size_t h, double k, double *lens, size_t lens_l
 uint32_t tablet_distort(const double *lens, size_t lens_len, double x, double y, double *point, size_t point_len);
 uint32_t tablet_undistort(const double *lens, size_t lens_len, double x, double y, double *point, size_t point_len);
 
-/* The colour of a capture at a position. 2, 3. colour: TABLET_COLOUR_LEN. */
+/* The colour of a capture at a position: that of the edge where it lies beyond, black where a coordinate is a NaN. 2, 3.
+ * colour: TABLET_COLOUR_LEN, red, green, blue, and 1 where the position is inside the picture, else 0. */
 uint32_t tablet_bilinear(const uint8_t *capture, size_t capture_len, size_t w, size_t h, double x, double y,
                          uint8_t *colour, size_t colour_len);
 
@@ -349,7 +362,7 @@ static inline uint32_t tablet_areas_rectify(struct tablet_areas *a, size_t w, si
                           a->counts, TABLET_COUNTS_LEN, a->fit, TABLET_SCORED_FIT_LEN);
 }
 
-/* tablet_fit_geometry: the fit is in a->fit, the rest in a->counts. */
+/* tablet_fit_geometry: the fit is in a->fit, the rest in a->counts, but for TABLET_BEYOND: that stays as it was. */
 static inline uint32_t tablet_areas_fit(struct tablet_areas *a, size_t w, size_t h,
                                         size_t width, size_t height, size_t cell, size_t margin)
 {
@@ -358,7 +371,7 @@ static inline uint32_t tablet_areas_fit(struct tablet_areas *a, size_t w, size_t
                                a->mask, a->mask_len, a->seen, a->seen_len,
                                a->waiting, a->waiting_len, a->patches, a->patches_len,
                                a->candidates, a->candidates_len, a->blob_index, a->blob_index_len,
-                               a->means, a->means_len, a->counts, TABLET_COUNTS_LEN, a->fit, TABLET_SCORED_FIT_LEN);
+                               a->means, a->means_len, a->counts, TABLET_FITTED_LEN, a->fit, TABLET_SCORED_FIT_LEN);
 }
 
 /* tablet_fiducial_candidates: patches and candidates are in the areas, their numbers in the first three of a->counts. */

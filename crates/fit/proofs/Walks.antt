@@ -18,8 +18,8 @@ use Rattle.frame.specs.Limits.{FrameHeld}
 use native.Mathlib.Nat.{le-trans, div-le-self, mul-comm}
 use Rattle.base.proofs.Arith.{row-in}
 use Rattle.frame.specs.declared.Point.{Point}
-use Rattle.frame.specs.declared.Rgb.{Rgb}
-use Rattle.sampling.specs.Reading.{bilinear}
+use Rattle.sampling.specs.Reading.{inside, sampleAt}
+use Rattle.sampling.specs.declared.Sample.{Sample}
 use Rattle.frame.specs.declared.FrameSpec.{FrameSpec}
 use Rattle.fit.specs.declared.GeometryFit.{GeometryFit}
 use Rattle.fit.specs.declared.Grade.{Grade}
@@ -143,9 +143,14 @@ module _ (img : Image) (f : FrameSpec) (fit : GeometryFit) (c r i : ℕ) {p : Po
   unfolding tapOutside
   tap-outside-is e = e ∙ ap (λ (z : Point). outside (img .w) (img .h) (z .x) (z .y)) at
 
-  pub tap-is : {q : Rgb} {v : Float} → q ≡ bilinear img p → v ≡ luma64 q → v ≡ tap img f fit c r i
-  unfolding tap
-  tap-is e d = d ∙ ap luma64 (e ∙ ap (bilinear img) at)
+  pub tap-is : {s : Sample} {v : Float} → s ≡ sampleAt img p → v ≡ luma64 (s .colour) → v ≡ tap img f fit c r i
+  unfolding tap sampleAt
+  tap-is e d = d ∙ ap (λ (z : Sample). luma64 (z .colour)) (e ∙ ap (sampleAt img) at)
+
+-- what an answer tells of its position
+pub sample-inside : (img : Image) (p : Point) {s : Sample} → s ≡ sampleAt img p → s .inside ≡ inside (img .w) (img .h) (p .x) (p .y)
+unfolding sampleAt
+sample-inside img p e = ap (λ (z : Sample). z .inside) e
 
 module _ (img : Image) (f : FrameSpec) (fit : GeometryFit) (x y : ℕ) (a l : List Float) (e : a ≡ filled (cellTap img f fit x y) 9 l) (h : 9 ≤ length l) where
   pub cell-mean-is : {m : Float} → m ≡ mean (listed a) 9 → m ≡ cellMean img f fit x y

@@ -4,3 +4,4 @@ pub mod Fits
 pub mod Numbers
 pub mod Contracts
 pub mod First
+pub mod Taps

@@ -9,7 +9,9 @@ ghost use Prim.Native.Nat.{_≤_, _<_, _^_};
 ghost use lib.ListN.{length};
 ghost use Rattle.frame.specs.Image.{outside};
 ghost use Rattle.frame.specs.Limits.{FrameHeld};
+ghost use Rattle.sampling.specs.Reading as reading;
 ghost use Rattle.fit.specs.Grid as spec;
+ghost use Rattle.fit.specs.Taps as taps;
 
 // How many columns of cells are sampled: every third.
 pub fn across(frame: FrameSpec) -> usize
@@ -57,12 +59,32 @@ pub fn tap_place(frame: FrameSpec, fit: GeometryFit, c: usize, r: usize, i: usiz
     fit.map(p)
 }
 
-// A tap is outside the picture; a NaN coordinate compares false.
-pub fn tap_outside(w: usize, h: usize, p: Point) -> bool
-    requires { ⌜ (w ≤ 4096) × (h ≤ 4096) ⌝ }
+// A coordinate is past the ends of a side of n pixels; a NaN compares false.
+fn past(n: usize, t: f64) -> bool
+    requires { ⌜ n ≤ 4096 ⌝ }
+    ensures { λ r. ⌜ r ≡ taps.past n t ⌝ }
+{
+    (t < 0.0) | (t >= n as f64)
+}
+
+// A tap is outside the picture: what `bilinear` answers of it, except that a NaN coordinate alone
+// puts no tap outside; the other one is still tested.
+pub fn tap_outside(w: usize, h: usize, p: Point, inside: bool) -> bool
+    requires { ⌜ (w ≤ 4096) × (h ≤ 4096) × (inside ≡ reading.inside w h (p .x) (p .y)) ⌝ }
     ensures { λ r. ⌜ r ≡ outside w h (p .x) (p .y) ⌝ }
 {
-    frame::internal::outside(w, h, p.x, p.y)
+    if inside {
+        return false;
+    }
+    let x = p.x;
+    let y = p.y;
+    if x != x {
+        return past(h, y);
+    }
+    if y != y {
+        return past(w, x);
+    }
+    true
 }
 
 // A reading's luma, in f64.

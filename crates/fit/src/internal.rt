@@ -121,12 +121,13 @@ pub fn grade(
             let mut taps = [0.0; 9];
             'taps: for i in 0..9 {
                 let p = grid::tap_place(frame, fit, c, r, i);
-                if grid::tap_outside(w, h, p) {
+                let s = sampling::internal::sample(capture, w, h, p);
+                if grid::tap_outside(w, h, p, s.inside) {
                     found = true;
                     cell = r * cols + c;
                     break 'rows;
                 }
-                let colour = sampling::internal::reading(capture, w, h, p);
+                let colour = s.colour;
                 taps[i] = grid::luma(colour);
             }
             let m = grid::cell_mean(taps);

@@ -4,10 +4,12 @@ use mathlib.Core.Bool.{Bool, true, false, not, _&&_, _||_}
 use Prim.Native.Nat.{ℕ, zero, suc, _+_, _*_, _≤_, _<_}
 use native.Mathlib.Nat.{le-trans, le-of-eq, lt-of-lt-of-le, lt-of-le-of-lt, mul-right-comm, mul-le-mul-right, mul-lt-mul-of-pos-right, lt-of-mul-lt-mul-right, mul-pos, add-comm, zero-mul}
 use native.Mathlib.Omega.{arith}
+use borrow.Author.Tests.{ltb-false}
 use lib.Dec.{T, ltb, eqb, ltb→lt, lt→ltb, nltb→le, eqb→eq, T-not, not-T}
 use lib.Arith.{le→nltb}
 use lib.Ieee.{Float, nan, inf, fin, up, down, below, level, lt, eq, le, neg, isNan}
-use lib.Ieee.Fits.{down-pos}
+use lib.Ieee.Bits.{is-true, is-false}
+use lib.Ieee.Fits.{and-i, eq→eqb, down-pos}
 use lib.Ieee.Positive.{first-pos}
 use Rattle.base.proofs.Tests.{no-eq, nor, nor-left, nand}
 
@@ -142,6 +144,51 @@ lt-not-le (fin s m e) nan h = absurd h
 lt-not-le (fin s m e) (inf true) h = absurd h
 lt-not-le (fin s m e) (inf false) h = tt
 lt-not-le (fin s m e) (fin t n d) h = below-not s t (m * up e * down d) (n * up d * down e) h
+
+-- .. and what is not less is as much or more
+least : (a b : ℕ) (e : Bool) → a ≤ b → (a ≡ b → T e) → T (ltb a b || (e && true))
+least a b e h k = go (ltb a b) refl
+  where
+    go : (t : Bool) → ltb a b ≡ t → T (t || (e && true))
+    go true x = tt
+    go false x = and-i e true (k (let y : b ≤ a = ltb-false a b x in omega arith)) tt
+
+below-else : (s t : Bool) (p q : ℕ) → T (not (below s p t q)) → T (below t q s p || level t q s p)
+below-else false false p q h = least q p (eqb q p) (nltb→le p q h) (λ e. eq→eqb e)
+below-else false true p q h = go (ltb 0 (q + p)) refl
+  where
+    go : (t : Bool) → ltb 0 (q + p) ≡ t → T (t || (eqb q p && eqb q 0))
+    go true x = tt
+    go false x =
+        let y : q + p ≤ 0 = ltb-false 0 (q + p) x in
+        and-i (eqb q p) (eqb q 0) (eq→eqb {a = q} {b = p} (omega arith)) (eq→eqb {a = q} {b = 0} (omega arith))
+below-else true false p q h =
+    let y : p + q ≤ 0 = nltb→le 0 (p + q) h in
+    and-i (eqb q p) (eqb q 0) (eq→eqb {a = q} {b = p} (omega arith)) (eq→eqb {a = q} {b = 0} (omega arith))
+below-else true true p q h = least p q (eqb q p) (nltb→le q p h) (λ e. eq→eqb (sym e))
+
+-- where both are numbers
+pub not-lt-le : (a b : Float) → T (not (lt a b)) → T (not (isNan a)) → T (not (isNan b)) → T (le b a)
+unfolding lt le eq isNan
+not-lt-le nan b h n k = absurd n
+not-lt-le (inf s) nan h n k = absurd k
+not-lt-le (inf true) (inf true) h n k = tt
+not-lt-le (inf true) (inf false) h n k = absurd h
+not-lt-le (inf false) (inf true) h n k = tt
+not-lt-le (inf false) (inf false) h n k = tt
+not-lt-le (inf true) (fin t o d) h n k = absurd h
+not-lt-le (inf false) (fin t o d) h n k = tt
+not-lt-le (fin s m e) nan h n k = absurd k
+not-lt-le (fin s m e) (inf true) h n k = tt
+not-lt-le (fin s m e) (inf false) h n k = absurd h
+not-lt-le (fin s m e) (fin t o d) h n k = below-else s t (m * up e * down d) (o * up d * down e) h
+
+pub le-is : (a b : Float) → T (not (isNan a)) → T (not (isNan b)) → le b a ≡ not (lt a b)
+le-is a b n k = go (lt a b) refl
+  where
+    go : (t : Bool) → lt a b ≡ t → le b a ≡ not t
+    go true x = is-false _ (lt-not-le a b (subst T (sym x) tt))
+    go false x = is-true _ (not-lt-le a b (subst (λ t. T (not t)) (sym x) tt) n k)
 
 -- to change every sign turns the order round
 below-neg : (s t : Bool) (p q : ℕ) → below (not t) q (not s) p ≡ below s p t q

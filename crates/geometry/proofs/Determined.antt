@@ -1,5 +1,6 @@
 -- A rectification's answer, its canonical image and its planes, marks and records are decided by the capture and the frame, where the same tests hold.
 -- Assumes nothing.
+use Prim.Native.Nat.{ℕ, _≤_}
 use mathlib.Core.Path.{_≡_, refl, sym, ap, subst, _∙_}
 use mathlib.Core.Bool.{Bool, true, false}
 use native.Mathlib.Omega.{arith}
@@ -17,7 +18,7 @@ use Rattle.fit_geometry.specs.Agreement.{SameTests, SameFit}
 use Rattle.fit_geometry.specs.Contracts.{stageOf, FittingAfter}
 use Rattle.fit_geometry.specs.declared.PictureFit.{PictureFit}
 use Rattle.fit_geometry.proofs.Determined.{Kind, fine, low, high, kind, Guarding, counts, none-where, same-answer, same-fit}
-use Rattle.geometry.specs.Warp.{warped}
+use Rattle.geometry.specs.Warp.{warped, beyond}
 use Rattle.geometry.specs.Rectification.{Lent, rectifyTests, Seen, Rectification}
 use Rattle.geometry.specs.Agreement.{Agreement}
 use Rattle.geometry.proofs.Rectifying.{passed, warped-same}
@@ -32,7 +33,7 @@ guarding img f a =
     }
 
 -- except by 16 a rectification fits the geometry as `fit_geometry` does, after its own tests
-pub fitting : (img : Image) (f : FrameSpec) {a b : Lent} {r : PictureFit} (h : Rectification img f a b r) → (h .number ≡ 16 → ⊥)
+pub fitting : (img : Image) (f : FrameSpec) {a b : Lent} {r : PictureFit} {n : ℕ} (h : Rectification img f a b r n) → (h .number ≡ 16 → ⊥)
     → FittingAfter img f (rectifyTests img f a) (a .areas) (b .areas) (a .means) (b .means) r
 fitting img f {a} {b} h other =
     record {
@@ -60,15 +61,15 @@ fitting img f {a} {b} h other =
     rest (low x y) = subst (λ (l : Lent). MeansKept f (a .means) (l .means)) (sym (h .untouched x y)) (refl, refl)
     rest (high x) = h .refused x .means-rest
 
-pub accepted-number : (img : Image) (f : FrameSpec) {a b : Lent} {r : PictureFit} (h : Rectification img f a b r) → r .verdict ≡ Accepted → h .number ≡ 0
+pub accepted-number : (img : Image) (f : FrameSpec) {a b : Lent} {r : PictureFit} {n : ℕ} (h : Rectification img f a b r n) → r .verdict ≡ Accepted → h .number ≡ 0
 accepted-number img f h v = accepted-zero (h .given) v
 
 -- no test refuses an accepted one
-pub unrefused : (img : Image) (f : FrameSpec) {a b : Lent} {r : PictureFit} (h : Rectification img f a b r) → h .number ≡ 0 → lowestOf (rectifyTests img f a) ≡ 0
+pub unrefused : (img : Image) (f : FrameSpec) {a b : Lent} {r : PictureFit} {n : ℕ} (h : Rectification img f a b r n) → h .number ≡ 0 → lowestOf (rectifyTests img f a) ≡ 0
 unrefused img f {a} h z =
     none-where img f (rectifyTests img f a) (guarding img f a) (h .number) (as-fit img f (rectifyTests img f a) (h .number) (λ x. omega (arith, z)) (h .refusal)) z
 
-module _ (img : Image) (f : FrameSpec) (a a′ b b′ : Lent) (r r′ : PictureFit) (h : Rectification img f a b r) (h′ : Rectification img f a′ b′ r′)
+module _ (img : Image) (f : FrameSpec) (a a′ b b′ : Lent) (r r′ : PictureFit) (n n′ : ℕ) (h : Rectification img f a b r n) (h′ : Rectification img f a′ b′ r′ n′)
     (e : SameTests (rectifyTests img f a) (rectifyTests img f a′)) where
   same-number : h .number ≡ h′ .number
   same-number =
@@ -124,5 +125,19 @@ module _ (img : Image) (f : FrameSpec) (a a′ b b′ : Lent) (r r′ : PictureF
         ∙ warped-same img f (r .fit) (a .canonical) (a′ .canonical) (passed img f a none .canonical-long) (passed img f a′ (sym e ∙ none) .canonical-long)
         ∙ ap (λ (s : PictureFit). warped img f (s .fit) (a′ .canonical)) (same .answer) ∙ sym (h′ .accepted yes′ .laid yes′)
 
-  pub determined : Agreement img b b′ r r′ (lowestOf (rectifyTests img f a))
-  determined = record { fit = same; canonical = canonical-agrees }
+  beyond-agrees : n ≡ n′
+  beyond-agrees = go (kind (h .number))
+    where
+      refused-both : 1 ≤ h .number → n ≡ n′
+      refused-both x = h .beyond-none x ∙ sym (h′ .beyond-none (omega (arith, same-number)))
+
+      go : Kind (h .number) → n ≡ n′
+      go (fine z) =
+          h .beyond-is z
+          ∙ ap (λ (s : PictureFit). beyond img f (s .fit)) (same .answer)
+          ∙ sym (h′ .beyond-is (sym same-number ∙ z))
+      go (low x y) = refused-both x
+      go (high x) = refused-both (omega arith)
+
+  pub determined : Agreement img b b′ r r′ n n′ (lowestOf (rectifyTests img f a))
+  determined = record { fit = same; beyond-same = beyond-agrees; canonical = canonical-agrees }

@@ -2,6 +2,7 @@
 pub mod Given
 pub mod Parts
 pub mod Rows
+pub mod Beyond
 pub mod Unscored
 pub mod Rectifying
 pub mod Determined

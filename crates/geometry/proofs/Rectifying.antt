@@ -33,9 +33,9 @@ use Rattle.fit_geometry.specs.declared.FitReport.{FitReport}
 use Rattle.fit_geometry.specs.declared.PictureFit.{PictureFit}
 use Rattle.fit_geometry.proofs.Determined.{Kind, fine, low, high, kind}
 use Rattle.fit_geometry.proofs.PastTests.{fit-room, tests-lowest}
-use Rattle.geometry.specs.Warp.{reading, warped}
+use Rattle.geometry.specs.Warp.{reading, warped, beyond}
 use Rattle.geometry.specs.Contracts.{canonicalLength, canonicalWrong}
-use Rattle.geometry.specs.Rectification.{Lent, lent, rectifyTests, unscored, Unrectified, withoutFit, scoredReport, laidWhere, Seen, Rectification}
+use Rattle.geometry.specs.Rectification.{Lent, lent, rectifyTests, unscored, Unrectified, withoutFit, scoredReport, laidWhere, beyondWhere, Seen, Rectification}
 use Rattle.geometry.proofs.Unscored.{score-kept, upto-ten, keeps-one, refused-fit, scored-fit, unscored-fit}
 
 -- ---- the canonical image
@@ -49,6 +49,16 @@ pub laid-kept : (n : ℕ) (img : Image) (f : FrameSpec) (fit : GeometryFit) (can
 unfolding laidWhere
 laid-kept zero img f fit canonical h = absurd (h refl)
 laid-kept (suc n) img f fit canonical h = refl
+
+pub beyond-laid : (n : ℕ) (img : Image) (f : FrameSpec) (fit : GeometryFit) → n ≡ 0 → beyond img f fit ≡ beyondWhere n img f fit
+unfolding beyondWhere
+beyond-laid zero img f fit e = refl
+beyond-laid (suc n) img f fit e = absurd (omega arith)
+
+pub beyond-kept : (n : ℕ) (img : Image) (f : FrameSpec) (fit : GeometryFit) → (n ≡ 0 → ⊥) → 0 ≡ beyondWhere n img f fit
+unfolding beyondWhere
+beyond-kept zero img f fit h = absurd (h refl)
+beyond-kept (suc n) img f fit h = refl
 
 -- the same bytes over whatever it held
 pub warped-same : (img : Image) (f : FrameSpec) (fit : GeometryFit) (c d : List ℕ) → length c ≡ canonicalLength f → length d ≡ canonicalLength f → warped img f fit c ≡ warped img f fit d
@@ -92,7 +102,7 @@ module _ (img : Image) (f : FrameSpec) (a : Lent) where
   abbrev wrong : Bool
   wrong = canonicalWrong f (length (a .canonical))
 
-  refusing : (n : ℕ) → n ≡ lowestOf (rectifyTests img f a) → 1 ≤ n → Rectification img f a a (answerOf (refusedByTest n))
+  refusing : (n : ℕ) → n ≡ lowestOf (rectifyTests img f a) → 1 ≤ n → Rectification img f a a (answerOf (refusedByTest n)) 0
   unfolding answerOf refusedByTest
   refusing n e h =
       let r = tests-lowest img f (rectifyTests img f a) (rising img f short wrong) (upto-six img f short wrong) n e h in
@@ -107,16 +117,22 @@ module _ (img : Image) (f : FrameSpec) (a : Lent) where
         unseen = λ x y. (refl, refl, refl);
         untried = λ x y. refl;
         nowhere = λ x. refl;
+        beyond-is = λ x. absurd (omega arith);
+        beyond-none = λ x. refl;
       }
 
-  pub rectify-refused : (n : ℕ) (r : PictureFit) → n ≡ lowestOf (rectifyTests img f a) → (n ≡ 0 → ⊥) → r ≡ answerOf (refusedByTest n) → Rectification img f a a r
+  pub rectify-refused : (n : ℕ) (r : PictureFit) → n ≡ lowestOf (rectifyTests img f a) → (n ≡ 0 → ⊥) → r ≡ answerOf (refusedByTest n) → Rectification img f a a r 0
   rectify-refused zero r e h p = absurd (h refl)
-  rectify-refused (suc n) r e h p = subst (Rectification img f a a) (sym p) (refusing (suc n) e (omega arith))
+  rectify-refused (suc n) r e h p = subst (λ (t : PictureFit). Rectification img f a a t 0) (sym p) (refusing (suc n) e (omega arith))
 
   module _ (b : Areas) (means : List Float) (p : FitReport) (e : lowestOf (rectifyTests img f a) ≡ 0) (h : FitPastTests img f (a .areas) b (a .means) means p) where
     -- what the call leaves, where its picture's fit is r in the end
     abbrev left : FitReport → Lent
     left r = lent b means (laidWhere (r .number) img f (r .stage .fit) (a .canonical))
+
+    -- .. and the whole of it with its answer
+    abbrev Rectifies : FitReport → Type 0
+    Rectifies r = Rectification img f a (left r) (answerOf r) (beyondWhere (r .number) img f (r .stage .fit))
 
     lowest-fit : Lowest (Unfitted img f (rectifyTests img f a)) (p .number)
     lowest-fit = h .lowest (rectifyTests img f a) (none-tested (rectifyTests img f a) (rising img f short wrong) e)
@@ -174,7 +190,7 @@ module _ (img : Image) (f : FrameSpec) (a : Lent) where
             undecided = λ z. absurd (let y = most-ten in omega arith);
           }
 
-      rectifying : Rectification img f a (left p) (answerOf p)
+      rectifying : Rectifies p
       unfolding answerOf
       rectifying =
           record {
@@ -187,6 +203,8 @@ module _ (img : Image) (f : FrameSpec) (a : Lent) where
             unseen = λ x y. absurd (let z : 7 ≤ p .number = h .from-seven x in omega arith);
             untried = h .untried;
             nowhere = h .nowhere;
+            beyond-is = λ z. sym (beyond-laid (p .number) img f (p .stage .fit) z);
+            beyond-none = λ x. sym (beyond-kept (p .number) img f (p .stage .fit) (λ y. absurd (omega arith)));
           }
 
     -- ---- a fit without a score
@@ -211,7 +229,7 @@ module _ (img : Image) (f : FrameSpec) (a : Lent) where
             undecided = λ x q m. ap withoutFit (h .found z ∙ ap (searched img f) (marked-unique img f (centers z) q (centers-mark z) m));
           }
 
-      rectifying-unscored : Rectification img f a (left none) (answerOf none)
+      rectifying-unscored : Rectifies none
       unfolding answerOf
       rectifying-unscored =
           record {
@@ -224,24 +242,25 @@ module _ (img : Image) (f : FrameSpec) (a : Lent) where
             unseen = λ x y. absurd (omega arith);
             untried = λ x y. absurd (omega arith);
             nowhere = λ x. refl;
+            beyond-is = λ x. absurd (omega arith);
+            beyond-none = λ x. sym (beyond-kept 16 img f (withoutFit (p .stage) .fit) (λ y. omega arith));
           }
 
     -- ---- either
-    either : Rectification img f a (left (scoredReport p)) (answerOf (scoredReport p))
+    either : Rectifies (scoredReport p)
     either = go (eqb (p .number) 0) (unscored (p .stage .kept)) refl refl
       where
-        as-found : (eqb (p .number) 0 && unscored (p .stage .kept)) ≡ false → (p .number ≡ 0 → unscored (p .stage .kept) ≡ false)
-            → Rectification img f a (left (scoredReport p)) (answerOf (scoredReport p))
-        as-found x s = subst (λ (r : FitReport). Rectification img f a (left r) (answerOf r)) (sym (report-scored p x)) (rectifying s)
+        as-found : (eqb (p .number) 0 && unscored (p .stage .kept)) ≡ false → (p .number ≡ 0 → unscored (p .stage .kept) ≡ false) → Rectifies (scoredReport p)
+        as-found x s = subst Rectifies (sym (report-scored p x)) (rectifying s)
 
-        go : (n s : Bool) → eqb (p .number) 0 ≡ n → unscored (p .stage .kept) ≡ s → Rectification img f a (left (scoredReport p)) (answerOf (scoredReport p))
-        go true true x y =
-            subst (λ (r : FitReport). Rectification img f a (left r) (answerOf r)) (sym (report-unscored p (λ i. x i && y i))) (rectifying-unscored (eqb-true _ _ x) y)
+        go : (n s : Bool) → eqb (p .number) 0 ≡ n → unscored (p .stage .kept) ≡ s → Rectifies (scoredReport p)
+        go true true x y = subst Rectifies (sym (report-unscored p (λ i. x i && y i))) (rectifying-unscored (eqb-true _ _ x) y)
         go true false x y = as-found (λ i. x i && y i) (λ z. y)
         go false s x y = as-found (λ i. x i && y i) (λ z. absurd (eqb-false _ _ x z))
 
-    pub rectify-reported : (t : FitReport) (canonical : List ℕ) (r : PictureFit) → t ≡ scoredReport p → canonical ≡ left t .canonical → r ≡ answerOf t
-        → Rectification img f a (lent b means canonical) r
-    rectify-reported t canonical r x c q =
-        subst (Rectification img f a (lent b means canonical)) (sym q)
-        (subst (λ (y : List ℕ). Rectification img f a (lent b means y) (answerOf t)) (sym c) (subst (λ (y : FitReport). Rectification img f a (left y) (answerOf y)) (sym x) either))
+    pub rectify-reported : (t : FitReport) (canonical : List ℕ) (r : PictureFit) (count : ℕ) → t ≡ scoredReport p → canonical ≡ left t .canonical → r ≡ answerOf t
+        → count ≡ beyondWhere (t .number) img f (t .stage .fit) → Rectification img f a (lent b means canonical) r count
+    rectify-reported t canonical r count x c q n =
+        subst (Rectification img f a (lent b means canonical) r) (sym n)
+        (subst (λ (z : PictureFit). Rectification img f a (lent b means canonical) z (beyondWhere (t .number) img f (t .stage .fit))) (sym q)
+        (subst (λ (y : List ℕ). Rectification img f a (lent b means y) (answerOf t) (beyondWhere (t .number) img f (t .stage .fit))) (sym c) (subst Rectifies (sym x) either)))

@@ -12,9 +12,11 @@ use lib.Ieee.{Float}
 use lib.ListN.{length}
 use Rattle.base.proofs.Tests.{fails}
 use Rattle.frame.specs.Image.{Image}
-use Rattle.frame.specs.Refusals.{Lowest, Tested, check, lowestOf, verdictOf, frameOutside, captureWrong}
+use Rattle.frame.specs.Answers.{numberFor, numberAs}
+use Rattle.frame.specs.Refusals.{Lowest, Tested, check, lowestOf, frameOutside, captureWrong}
 use Rattle.frame.specs.Refusals.Lowest.{accepted, refused}
 use Rattle.frame.specs.declared.FrameSpec.{FrameSpec}
+use Rattle.frame.specs.declared.Number.the-variants.{Is}
 use Rattle.frame.proofs.Lowest.{Rising, lowest-of, none-tested, lowest-first, lowest-next, lowest-none, lowest-before, lowest-past}
 use Rattle.candidates.specs.Areas.{pictureTests}
 use Rattle.candidates.proofs.Refusing.{rising}
@@ -29,10 +31,10 @@ use Rattle.fit.proofs.First.{some-outside, none-outside}
 use Rattle.search.proofs.Kept.{kept-grade}
 use Rattle.search.specs.declared.Outcome.the-variants.{Graded}
 use Rattle.search.specs.declared.Stage.{Stage}
-use Rattle.book.specs.Layout.{recordOf}
+use Rattle.book.specs.Layout.{fitIn, recordOf}
 use Rattle.book.specs.declared.FitRecord.{FitRecord}
 use Rattle.book.proofs.FitKept.{fit-kept}
-use Rattle.geometry.specs.Warp.{warped}
+use Rattle.geometry.specs.Warp.{warped, beyond}
 use Rattle.geometry.specs.Contracts.{canonicalLength, canonicalWrong, warpTests, recordTests}
 use Rattle.geometry.specs.Rectification.{Lent, rectifyTests}
 use Rattle.geometry.specs.Scored.{AcceptedScored, RecordRefusal, warp, unscoredRecord, none, RecordGiven, RecordLays}
@@ -56,7 +58,7 @@ module _ (img : Image) (f : FrameSpec) (fit : GeometryFit) (s : Float) (e : grad
   score-is = sym e ∙ none-outside img f fit none-out .1 enough
 
 pub accepted-scored : AcceptedScored
-accepted-scored img f a b r h v =
+accepted-scored img f a b r n h v =
     let z = accepted-number img f h v in
     let seen = h .accepted z in
     let s = seen .scored z .0 in
@@ -143,14 +145,16 @@ unfolding recordOf
 record-graded panel camera g fit s e = scored-zero g s e
 
 pub record-lays : RecordLays
-unfolding verdictOf
-record-lays img f a b r panel camera g c c′ v h y k nine F l w =
+unfolding numberFor numberAs
+record-lays img f a b r n panel camera g c c′ m h y k nine F l w =
     let z = accepted-number img f h y in
     let clear = unrefused img f h z in
     let seen = h .accepted z in
     let e = record-passes img f a clear (recordOf panel camera g (r .fit)) c
     (record-graded panel camera g (r .fit) (seen .scored z .0) (graded _ _ (sym k ∙ seen .scored z .1))) l in (
-      w .given ∙ ap verdictOf e,
+      w .given
+          ∙ ap (λ (i : ℕ). numberAs i (beyond img f (fitIn (recordOf panel camera g (r .fit))))) e
+          ∙ ap Is (ap (beyond img f) (fit-kept panel camera g (r .fit) nine F) ∙ sym (h .beyond-is z)),
       w .accepted e
           ∙ ap (λ (t : GeometryFit). warped img f t c) (fit-kept panel camera g (r .fit) nine F)
           ∙ warped-same img f (r .fit) c (a .canonical) l (passed img f a clear .canonical-long)

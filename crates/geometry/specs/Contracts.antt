@@ -6,10 +6,11 @@ use mathlib.Core.List.{List, [], _∷_, _++_}
 use lib.Dec.{eqb}
 use lib.ListN.{length}
 use Rattle.frame.specs.Image.{Image}
-use Rattle.frame.specs.Refusals.{verdictOf, Check, check, lowestOf, frameOutside, captureWrong}
-use Rattle.geometry.specs.Warp.{warped}
+use Rattle.frame.specs.Answers.{numberFor}
+use Rattle.frame.specs.Refusals.{Check, check, lowestOf, frameOutside, captureWrong}
+use Rattle.geometry.specs.Warp.{warped, beyond}
 use Rattle.frame.specs.declared.FrameSpec.{FrameSpec}
-use Rattle.frame.specs.declared.Verdict.{Verdict}
+use Rattle.frame.specs.declared.Number.{Number}
 use Rattle.fit.specs.declared.GeometryFit.{GeometryFit}
 use Rattle.book.specs.Layout.{fitIn}
 use Rattle.book.specs.declared.FitRecord.{FitRecord}
@@ -27,9 +28,10 @@ warpTests img f canonical =
     check 1 (frameOutside f) ∷ check 2 (captureWrong img) ∷ check 4 (canonicalWrong f (length canonical)) ∷ []
 
 -- ---- `warp_with`
-pub record Warping (img : Image) (f : FrameSpec) (fit : GeometryFit) (canonical canonical′ : List ℕ) (v : Verdict)
+pub record Warping (img : Image) (f : FrameSpec) (fit : GeometryFit) (canonical canonical′ : List ℕ) (a : Number)
     : Type 0 where
-  pub given : v ≡ verdictOf (lowestOf (warpTests img f canonical))
+  -- [23.5] "the warp result carries the number of canonical pixels whose position was not inside"
+  pub given : a ≡ numberFor (warpTests img f canonical) (beyond img f fit)
   pub accepted : lowestOf (warpTests img f canonical) ≡ 0 → canonical′ ≡ warped img f fit canonical
   pub refused : 1 ≤ lowestOf (warpTests img f canonical) → canonical′ ≡ canonical
 
@@ -40,9 +42,9 @@ pub record Warping (img : Image) (f : FrameSpec) (fit : GeometryFit) (canonical 
 unfoldable pub recordTests : Image → FrameSpec → FitRecord → List ℕ → List Check
 recordTests img f kept canonical = warpTests img f canonical ++ (check 16 (not (eqb (kept .grade) 0)) ∷ [])
 
-pub record RecordWarping (img : Image) (f : FrameSpec) (kept : FitRecord) (canonical canonical′ : List ℕ) (v : Verdict)
+pub record RecordWarping (img : Image) (f : FrameSpec) (kept : FitRecord) (canonical canonical′ : List ℕ) (a : Number)
     : Type 0 where
-  pub given : v ≡ verdictOf (lowestOf (recordTests img f kept canonical))
+  pub given : a ≡ numberFor (recordTests img f kept canonical) (beyond img f (fitIn kept))
   -- [21.7] "does `warp_with` of its matrix and lens"
   pub accepted : lowestOf (recordTests img f kept canonical) ≡ 0 → canonical′ ≡ warped img f (fitIn kept) canonical
   -- [21.9] "canonical image untouched"

@@ -1,5 +1,6 @@
 -- Definitions that the contracts of this crate cite.
 pub mod Warp
+pub mod Beyond
 pub mod Contracts
 pub mod Rectification
 pub mod Agreement

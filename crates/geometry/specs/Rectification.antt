@@ -26,6 +26,7 @@ use Rattle.search.specs.declared.Stage.{Stage}
 use Rattle.fit_geometry.specs.Contracts.{Unfitted, fitShort, stageOf}
 use Rattle.fit_geometry.specs.declared.FitReport.{FitReport}
 use Rattle.fit_geometry.specs.declared.PictureFit.{PictureFit}
+use Rattle.geometry.specs.Warp as warp
 use Rattle.geometry.specs.Warp.{warped}
 use Rattle.geometry.specs.Contracts.{canonicalWrong}
 
@@ -85,6 +86,11 @@ unfoldable pub laidWhere : ℕ → Image → FrameSpec → GeometryFit → List 
 laidWhere zero img f fit canonical = warped img f fit canonical
 laidWhere (suc n) img f fit canonical = canonical
 
+-- .. and the number of its pixels whose position was not inside; else 0
+unfoldable pub beyondWhere : ℕ → Image → FrameSpec → GeometryFit → ℕ
+beyondWhere zero img f fit = warp.beyond img f fit
+beyondWhere (suc n) img f fit = 0
+
 -- ---- the areas and the answer of a call that is accepted, with the number 0, or refused by 7 or a higher number
 pub record Seen (img : Image) (f : FrameSpec) (a b : Lent) (r : PictureFit) (number : ℕ) : Type 0 where
   -- [0.7] after an acceptance, and after a refusal by 7 or more, the patch list starts with every patch once, in
@@ -116,8 +122,8 @@ pub record Seen (img : Image) (f : FrameSpec) (a b : Lent) (r : PictureFit) (num
   -- [21.9] by 16: the kept trial's grade and the counts of the whole search, and no fit
   pub undecided : number ≡ 16 → (q : Quad) → MarkedBy img f q → stageOf r ≡ withoutFit (searched img f q)
 
--- ---- `rectify`
-pub record Rectification (img : Image) (f : FrameSpec) (a b : Lent) (r : PictureFit) : Type 0 where
+-- ---- `rectify`: the answer r, and beside it the number `beyond`
+pub record Rectification (img : Image) (f : FrameSpec) (a b : Lent) (r : PictureFit) (beyond : ℕ) : Type 0 where
   -- [2.16] a refusal returns its number; 0 is acceptance
   pub number : ℕ
   pub given : r .verdict ≡ verdictOf number
@@ -134,3 +140,7 @@ pub record Rectification (img : Image) (f : FrameSpec) (a b : Lent) (r : Picture
   pub unseen : 1 ≤ number → number ≤ 6 → (r .patches ≡ 0) × (r .candidates ≡ 0) × (r .waited ≡ 0)
   pub untried : 1 ≤ number → number ≤ 9 → stageOf r ≡ begun 0 0
   pub nowhere : 1 ≤ number → r .places ≡ noPlaces
+  -- [23.5] "an accepted `rectify` carries the number of canonical pixels whose position was not inside, NaN counted";
+  -- after a refusal, of which there is nothing to tell, it is 0
+  pub beyond-is : number ≡ 0 → beyond ≡ warp.beyond img f (r .fit)
+  pub beyond-none : 1 ≤ number → beyond ≡ 0

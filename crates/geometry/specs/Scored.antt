@@ -9,7 +9,8 @@ use lib.ListN.{length, getD}
 use Rattle.frame.specs.Image.{Image}
 use Rattle.frame.specs.Refusals.{lowestOf}
 use Rattle.frame.specs.declared.FrameSpec.{FrameSpec}
-use Rattle.frame.specs.declared.Verdict.{Verdict}
+use Rattle.frame.specs.declared.Number.{Number}
+use Rattle.frame.specs.declared.Number.the-variants.{Is}
 use Rattle.frame.specs.declared.Verdict.the-variants.{Accepted}
 use Rattle.fit.specs.Contracts.{sampledCells}
 use Rattle.fit.specs.First.{Sampled, HasTapOutside}
@@ -28,8 +29,8 @@ use Rattle.geometry.specs.Rectification.{Lent, Rectification}
 -- its score is that of this fit: no lens term is taken "without any evidence"
 abbrev pub AcceptedScored : Type 0
 AcceptedScored =
-    (img : Image) (f : FrameSpec) (a b : Lent) (r : PictureFit)
-    → Rectification img f a b r
+    (img : Image) (f : FrameSpec) (a b : Lent) (r : PictureFit) (beyond : ℕ)
+    → Rectification img f a b r beyond
     → r .verdict ≡ Accepted
     → (16 ≤ sampledCells f)
     × ((column row : ℕ) → Sampled f column row → HasTapOutside img f (r .fit) column row → ⊥)
@@ -48,16 +49,16 @@ RecordGiven =
     → RecordRefusal img f kept c (lowestOf (recordTests img f kept c))
 
 -- [21.7] the record of an accepted card, for numbers that are f64 as in book/Meaning: `warp_record` takes it, and lays
--- the card again that `rectify` laid
+-- the card again that `rectify` laid, with the same number beside it
 abbrev pub RecordLays : Type 0
 RecordLays =
-    (img : Image) (f : FrameSpec) (a b : Lent) (r : PictureFit) (panel camera : ℕ) (g : Grade) (c c′ : List ℕ)
-    (v : Verdict)
-    → Rectification img f a b r
+    (img : Image) (f : FrameSpec) (a b : Lent) (r : PictureFit) (beyond panel camera : ℕ) (g : Grade) (c c′ : List ℕ)
+    (n : Number)
+    → Rectification img f a b r beyond
     → r .verdict ≡ Accepted
     → r .kept ≡ Graded g
     → length (r .fit .h .m) ≡ 9
     → ((i : ℕ) → i < 13 → T (fits binary64 (getD (fitNumbers (r .fit)) i nan)))
     → length c ≡ canonicalLength f
-    → RecordWarping img f (recordOf panel camera g (r .fit)) c c′ v
-    → (v ≡ Accepted) × (c′ ≡ b .canonical)
+    → RecordWarping img f (recordOf panel camera g (r .fit)) c c′ n
+    → (n ≡ Is beyond) × (c′ ≡ b .canonical)

@@ -11,12 +11,12 @@ use fit_geometry::internal::means_short;
 use float::internal::to_f64;
 use frame::FrameSpec;
 use frame::Point;
-use frame::Rgb;
 use frame::internal::frame_outside;
+use sampling::Sample;
 use search::Outcome;
 use search::Stage;
 ghost use mathlib.Core.Path.{_≡_};
-ghost use mathlib.Core.Bool.{false, not};
+ghost use mathlib.Core.Bool.{false, cond, not};
 ghost use Prim.Native.Nat.{_+_, _*_, _<_};
 ghost use lib.Dec.{eqb};
 ghost use lib.ListN.{length};
@@ -27,7 +27,8 @@ ghost use Rattle.frame.specs.Limits.{FrameHeld, CaptureHeld};
 ghost use Rattle.frame.specs.Refusals.{lowestOf, frameOutside};
 ghost use Rattle.candidates.specs.Areas.{pictureTests};
 ghost use Rattle.fit_geometry.specs.Contracts.{fitShort};
-ghost use Rattle.geometry.specs.Warp.{reading, rowByte, warped};
+ghost use Rattle.sampling.specs.Reading.{sampleAt};
+ghost use Rattle.geometry.specs.Warp.{pixelPlace, rowByte, warped, rowBeyond, beyond};
 ghost use Rattle.geometry.specs.Contracts.{canonicalLength, canonicalWrong};
 ghost use Rattle.geometry.specs.Rectification as spec;
 
@@ -39,21 +40,21 @@ fn center(n: usize) -> f64
     to_f64(n) + 0.5
 }
 
-// The colour of the canonical pixel in column x and row y: the reading where the fit puts its
-// centre.
-fn pixel(capture: &[u8], w: usize, h: usize, fit: GeometryFit, x: usize, y: usize) -> Rgb
+// The canonical pixel in column x and row y: the reading where the fit puts its centre, and whether
+// that is inside the picture.
+fn pixel(capture: &[u8], w: usize, h: usize, fit: GeometryFit, x: usize, y: usize) -> Sample
     requires { ⌜ CaptureHeld (image w h (now capture)) × (x < 4096) × (y < 4096) ⌝ }
-    ensures { λ r. ⌜ r ≡ reading (image w h (now (capture .entry))) fit x y ⌝ }
+    ensures { λ r. ⌜ r ≡ sampleAt (image w h (now (capture .entry))) (pixelPlace fit x y) ⌝ }
 {
     let c = Point {
         x: center(x),
         y: center(y),
     };
     let p = fit.map(c);
-    sampling::internal::reading(capture, w, h, p)
+    sampling::internal::sample(capture, w, h, p)
 }
 
-// Row y of the canonical image.
+// Row y of the canonical image; the number of its pixels whose position was not inside.
 pub fn warp_row(
     capture: &[u8],
     w: usize,
@@ -62,23 +63,34 @@ pub fn warp_row(
     fit: GeometryFit,
     y: usize,
     row: &mut [u8],
-)
+) -> usize
     requires { ⌜ CaptureHeld (image w h (now capture)) × FrameHeld frame × (y < 4096) × (length (now row)
         ≡ 3 * frame .width) ⌝ }
-    ensures { λ _. ⌜ now (row .exit) ≡ filled (rowByte (image w h (now (capture .entry))) fit y) (3 * frame .width)
-        (now (row .entry)) ⌝ }
+    ensures { λ r. ⌜ (r ≡ rowBeyond (image w h (now (capture .entry))) frame fit y) × (now (row .exit)
+        ≡ filled (rowByte (image w h (now (capture .entry))) fit y) (3 * frame .width) (now (row .entry))) ⌝ }
 {
     let width = frame.width;
+    let mut count: usize = 0;
     for x in 0..width {
-        let c = pixel(capture, w, h, fit, x, y);
+        let s = pixel(capture, w, h, fit, x, y);
+        let c = s.colour;
         let i = x * 3;
         row[i] = c.r;
         row[i + 1] = c.g;
         row[i + 2] = c.b;
+        count += not_inside(s.inside);
     }
+    count
 }
 
-// The canonical image, a row at a time.
+// 1 of a position that is not inside, else 0.
+fn not_inside(inside: bool) -> usize
+    ensures { λ r. ⌜ r ≡ cond inside 0 1 ⌝ }
+{
+    (!inside) as usize
+}
+
+// The canonical image, a row at a time; the number of its pixels whose position was not inside.
 pub fn warp(
     capture: &[u8],
     w: usize,
@@ -86,20 +98,22 @@ pub fn warp(
     frame: FrameSpec,
     fit: GeometryFit,
     canonical: &mut [u8],
-)
+) -> usize
     requires { ⌜ CaptureHeld (image w h (now capture)) × FrameHeld frame × (length (now canonical)
         ≡ 3 * frame .width * frame .height) ⌝ }
-    ensures { λ _. ⌜ now (canonical .exit) ≡ warped (image w h (now (capture .entry))) frame fit
-        (now (canonical .entry)) ⌝ }
+    ensures { λ r. ⌜ (r ≡ beyond (image w h (now (capture .entry))) frame fit) × (now (canonical .exit)
+        ≡ warped (image w h (now (capture .entry))) frame fit (now (canonical .entry))) ⌝ }
 {
     let width = frame.width;
     let size = 3 * width;
     let height = frame.height;
+    let mut count: usize = 0;
     for y in 0..height {
         let start = y * size;
         let end = start + size;
-        warp_row(capture, w, h, frame, fit, y, &mut canonical[start..end]);
+        count += warp_row(capture, w, h, frame, fit, y, &mut canonical[start..end]);
     }
+    count
 }
 
 // Refusal 4, of a canonical image of n bytes.
@@ -191,7 +205,8 @@ pub fn scored(picture: FitReport) -> FitReport
     picture
 }
 
-// The canonical image under the fit of a picture that is not refused; else it stays.
+// The canonical image under the fit of a picture that is not refused, and the number of its pixels
+// whose position was not inside; else it stays, and the number is 0.
 pub fn lay(
     capture: &[u8],
     w: usize,
@@ -199,17 +214,18 @@ pub fn lay(
     frame: FrameSpec,
     picture: FitReport,
     canonical: &mut [u8],
-)
+) -> usize
     requires { ⌜ CaptureHeld (image w h (now capture)) × FrameHeld frame × (length (now canonical)
         ≡ canonicalLength frame) ⌝ }
-    ensures { λ _. ⌜ now (canonical .exit) ≡ spec.laidWhere (picture .number) (image w h (now (capture .entry))) frame
-        (picture .stage .fit) (now (canonical .entry)) ⌝ }
+    ensures { λ r. ⌜ (r ≡ spec.beyondWhere (picture .number) (image w h (now (capture .entry))) frame
+        (picture .stage .fit)) × (now (canonical .exit) ≡ spec.laidWhere (picture .number)
+        (image w h (now (capture .entry))) frame (picture .stage .fit) (now (canonical .entry))) ⌝ }
 {
     let number = picture.number;
     if number != 0 {
-        return;
+        return 0;
     }
     let stage = picture.stage;
     let fit = stage.fit;
-    warp(capture, w, h, frame, fit, canonical);
+    warp(capture, w, h, frame, fit, canonical)
 }

@@ -7,7 +7,7 @@ use fit_geometry::internal::answer;
 use fit_geometry::internal::fit_picture;
 use fit_geometry::internal::refused_by_test;
 use frame::FrameSpec;
-use frame::Verdict;
+use frame::Number;
 use frame::internal::capture_wrong;
 use frame::internal::frame_outside;
 use internal::canonical_wrong;
@@ -22,8 +22,15 @@ ghost use Rattle.geometry.specs.Rectification.{Rectification, lent};
 
 pub mod internal;
 
+// What `rectify` gives: the fit of the picture, and how many of the card's pixels were read at a
+// position that is not inside the picture, where the reading is its edge's; 0 where it is refused.
+pub struct Rectified {
+    pub picture: PictureFit,
+    pub beyond: usize,
+}
+
 // Lays the canonical image out under a known fit: each pixel is the reading where the fit puts its
-// centre.
+// centre. The answer is the number of pixels whose position was not inside the picture.
 pub fn warp_with(
     capture: &[u8],
     w: usize,
@@ -31,21 +38,20 @@ pub fn warp_with(
     frame: FrameSpec,
     fit: GeometryFit,
     canonical: &mut [u8],
-) -> Verdict
+) -> Number
     ensures { λ r. ⌜ Warping (image w h (now (capture .entry))) frame fit (now (canonical .entry))
         (now (canonical .exit)) r ⌝ }
 {
     if frame_outside(frame) {
-        return Verdict::Refused(1);
+        return Number::Refused(1);
     }
     if capture_wrong(capture, w, h) {
-        return Verdict::Refused(2);
+        return Number::Refused(2);
     }
     if canonical_wrong(frame, canonical.len()) {
-        return Verdict::Refused(4);
+        return Number::Refused(4);
     }
-    warp(capture, w, h, frame, fit, canonical);
-    Verdict::Accepted
+    Number::Is(warp(capture, w, h, frame, fit, canonical))
 }
 
 // The same under the fit that a book's record keeps; its panel and camera are not looked at. A
@@ -57,25 +63,24 @@ pub fn warp_record(
     frame: FrameSpec,
     kept: FitRecord,
     canonical: &mut [u8],
-) -> Verdict
+) -> Number
     ensures { λ r. ⌜ RecordWarping (image w h (now (capture .entry))) frame kept (now (canonical .entry))
         (now (canonical .exit)) r ⌝ }
 {
     if frame_outside(frame) {
-        return Verdict::Refused(1);
+        return Number::Refused(1);
     }
     if capture_wrong(capture, w, h) {
-        return Verdict::Refused(2);
+        return Number::Refused(2);
     }
     if canonical_wrong(frame, canonical.len()) {
-        return Verdict::Refused(4);
+        return Number::Refused(4);
     }
     if kept.grade != 0 {
-        return Verdict::Refused(16);
+        return Number::Refused(16);
     }
     let fit = kept.fit();
-    warp(capture, w, h, frame, fit, canonical);
-    Verdict::Accepted
+    Number::Is(warp(capture, w, h, frame, fit, canonical))
 }
 
 // Finds the card in a capture and lays it flat. Refusals 1 to 10, and 16 for a fit whose kept trial
@@ -95,7 +100,7 @@ pub fn rectify(
     blob_index: &mut [u32],
     means: &mut [f64],
     canonical: &mut [u8],
-) -> PictureFit
+) -> Rectified
     ensures { λ r. ⌜ Rectification (image w h (now (capture .entry))) frame
         (lent (areas (now (luma .entry)) (now (integral .entry)) (now (mask .entry)) (now (seen .entry))
         (now (waiting .entry)) (now (patches .entry)) (now (candidates .entry)) (now («blob_index» .entry)))
@@ -103,7 +108,7 @@ pub fn rectify(
         (lent (areas (now (luma .exit)) (now (integral .exit)) (now (mask .exit)) (now (seen .exit))
         (now (waiting .exit)) (now (patches .exit)) (now (candidates .exit)) (now («blob_index» .exit)))
         (now (means .exit)) (now (canonical .exit)))
-        r ⌝ }
+        (r .picture) (r .beyond) ⌝ }
 {
     let lengths = Lengths {
         luma: luma.len(),
@@ -117,7 +122,11 @@ pub fn rectify(
     };
     let number = refused(capture, w, h, frame, lengths, means.len(), canonical.len());
     if number != 0 {
-        return refused_by_test(number);
+        let refusal = refused_by_test(number);
+        return Rectified {
+            picture: refusal,
+            beyond: 0,
+        };
     }
     let found = fit_picture(
         capture,
@@ -134,7 +143,11 @@ pub fn rectify(
         blob_index,
         means,
     );
-    let picture = scored(found);
-    lay(capture, w, h, frame, picture, canonical);
-    answer(picture)
+    let report = scored(found);
+    let beyond = lay(capture, w, h, frame, report, canonical);
+    let picture = answer(report);
+    Rectified {
+        picture: picture,
+        beyond: beyond,
+    }
 }

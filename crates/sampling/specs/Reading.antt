@@ -1,11 +1,14 @@
--- `bilinear`, which truncates. Where a reading is taken and its colour are separate definitions. Assumes nothing.
+-- `bilinear`, which truncates. Where a reading is taken, its colour, and whether its position is inside the picture
+-- (requirements, 23) are separate definitions. Assumes nothing.
 use Prim.Native.Nat.{ℕ, _+_, _-_, min}
-use lib.Ieee.{Float}
+use mathlib.Core.Bool.{Bool, _&&_}
+use lib.Ieee.{Float, lt, le}
 use Rattle.float.specs.Floats.{_⊕_, _⊖_, _⊗_, f64, d64, floorOf, asU8, asUsize, clampOf}
 use Rattle.frame.specs.Image.{Image, px}
 use Rattle.frame.specs.declared.Point.{Point}
 use Rattle.frame.specs.declared.Rgb.{Rgb}
 use Rattle.sampling.specs.declared.Neighbours.{Neighbours}
+use Rattle.sampling.specs.declared.Sample.{Sample}
 
 -- ---- where: along a side, `part` of the way from the pixel `first` to the pixel `next`
 
@@ -44,3 +47,14 @@ colourAt img across down =
 -- `bilinear`: the colour at the point p
 unfoldable pub bilinear : Image → Point → Rgb
 bilinear img p = colourAt img (neighboursOf (img .w) (p .x)) (neighboursOf (img .h) (p .y))
+
+-- ---- whether it is inside
+
+-- [23.2] "whether the position was inside: x and y at least 0, x below w, y below h, and a NaN is not inside": as
+-- floats, so that −0 is inside, and w, h and an infinity are not. A NaN compares false
+unfoldable pub inside : ℕ → ℕ → Float → Float → Bool
+inside w h x y = le (f64 0) x && le (f64 0) y && lt x (f64 w) && lt y (f64 h)
+
+-- [23.2] "its answer should tell, beside the colour, whether the position was inside"
+unfoldable pub sampleAt : Image → Point → Sample
+sampleAt img p = record { colour = bilinear img p; inside = inside (img .w) (img .h) (p .x) (p .y) }

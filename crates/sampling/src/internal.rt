@@ -1,5 +1,6 @@
 // What the layers above call without the public functions' tests.
 use crate::Neighbours;
+use crate::Sample;
 use base::min;
 use float::internal::to_f64;
 use frame::Point;
@@ -11,7 +12,7 @@ ghost use Rattle.base.specs.Loops.{filled};
 ghost use Rattle.frame.specs.Image.{image};
 ghost use Rattle.frame.specs.Limits.{CaptureHeld};
 ghost use Rattle.sampling.specs.Luma.{lumaAt};
-ghost use Rattle.sampling.specs.Reading.{neighboursOf, blended, bilinear};
+ghost use Rattle.sampling.specs.Reading.{neighboursOf, blended, bilinear, inside, sampleAt};
 
 // The luma of each pixel.
 pub fn luma_plane(capture: &[u8], w: usize, h: usize, luma: &mut [f32])
@@ -64,5 +65,26 @@ pub fn reading(capture: &[u8], w: usize, h: usize, p: Point) -> Rgb
         r: blend(tx, ty, a.r, b.r, c.r, d.r),
         g: blend(tx, ty, a.g, b.g, c.g, d.g),
         b: blend(tx, ty, a.b, b.b, c.b, d.b),
+    }
+}
+
+// The position (x, y) is inside the picture; a NaN compares false.
+fn inside(w: usize, h: usize, x: f64, y: f64) -> bool
+    requires { ⌜ (w ≤ 4096) × (h ≤ 4096) ⌝ }
+    ensures { λ r. ⌜ r ≡ inside w h x y ⌝ }
+{
+    (0.0 <= x) & (0.0 <= y) & (x < to_f64(w)) & (y < to_f64(h))
+}
+
+// The reading at p, and whether p is inside the picture.
+pub fn sample(capture: &[u8], w: usize, h: usize, p: Point) -> Sample
+    requires { ⌜ CaptureHeld (image w h (now capture)) ⌝ }
+    ensures { λ r. ⌜ r ≡ sampleAt (image w h (now (capture .entry))) p ⌝ }
+{
+    let colour = reading(capture, w, h, p);
+    let within = inside(w, h, p.x, p.y);
+    Sample {
+        colour: colour,
+        inside: within,
     }
 }

@@ -5,7 +5,7 @@ ghost use mathlib.Core.Path.{_≡_};
 ghost use Rattle.frame.specs.Image.{image};
 ghost use Rattle.frame.specs.Refusals.{captureTests};
 ghost use Rattle.sampling.specs.Luma.{lumaOf};
-ghost use Rattle.sampling.specs.Reading as reading;
+ghost use Rattle.sampling.specs.Reading.{sampleAt};
 ghost use Rattle.sampling.specs.Answers.{colourFor};
 
 pub mod internal;
@@ -17,9 +17,15 @@ struct Neighbours {
     part: f64,
 }
 
-// The answer of `bilinear`: a colour, or the number of a refusal.
+// A colour, and whether the position where it was read is inside the picture.
+pub struct Sample {
+    pub colour: Rgb,
+    pub inside: bool,
+}
+
+// The answer of `bilinear`: what it read, or the number of a refusal.
 pub enum Colour {
-    Is(Rgb),
+    Is(Sample),
     Refused(u32),
 }
 
@@ -31,13 +37,13 @@ pub fn luma(r: u8, g: u8, b: u8) -> f32
 }
 
 // The colour at (x, y), in coordinates that put a pixel's centre at a half, by weights of the four
-// pixels around it, truncated. A place outside the picture reads its edge.
+// pixels around it, truncated. A place outside the picture reads its edge, and the answer tells it.
 pub fn bilinear(capture: &[u8], w: usize, h: usize, x: f64, y: f64) -> Colour
-    ensures { λ r. ⌜ r ≡ colourFor (captureTests (image w h (now (capture .entry)))) (reading.bilinear
+    ensures { λ r. ⌜ r ≡ colourFor (captureTests (image w h (now (capture .entry)))) (sampleAt
         (image w h (now (capture .entry))) (record { x = x; y = y })) ⌝ }
 {
     if frame::internal::capture_wrong(capture, w, h) {
         return Colour::Refused(2);
     }
-    Colour::Is(internal::reading(capture, w, h, Point { x: x, y: y }))
+    Colour::Is(internal::sample(capture, w, h, Point { x: x, y: y }))
 }

@@ -1,6 +1,6 @@
 -- The public functions' promises, over the number that a call gives in place of the public function's answer. Assumes nothing.
-use mathlib.Core.Path.{_≡_, refl, ap, subst, _∙_}
-use mathlib.Core.List.{List}
+use mathlib.Core.Path.{_≡_, refl, sym, ap, subst, _∙_}
+use mathlib.Core.List.{List, [], _∷_}
 use Prim.Native.Nat.{ℕ, zero, suc}
 use lib.Ieee.{Float}
 use Rattle.frame.specs.Image.{Image}
@@ -8,7 +8,7 @@ use Rattle.frame.specs.Refusals.{verdictOf, numberOf}
 use Rattle.frame.specs.declared.FrameSpec.{FrameSpec}
 use Rattle.frame.specs.declared.Verdict.{Verdict}
 use Rattle.frame.proofs.Given.{verdict-number, number-number}
-use Rattle.frame.specs.Answers.{numberRefusal, numberAs, numberFor}
+use Rattle.frame.specs.Answers.{numberRefusal, numberValue, numberAs, numberFor}
 use Rattle.frame.specs.declared.Number.{Number}
 use Rattle.markers.specs.Contracts.{Stamping}
 use Rattle.blobs.specs.Areas.{PatchAreas}
@@ -32,8 +32,10 @@ use Rattle.checkerboard.specs.Contracts.{Drawing}
 use Rattle.book.specs.Layout.{bookLength, countIn}
 use Rattle.book.specs.Contracts.{Reading, Writing}
 use Rattle.book.specs.declared.FitRecord.{FitRecord}
-use Rattle.geometry.specs.Warp.{warped}
+use Rattle.geometry.specs.Warp.{beyond}
 use Rattle.fit.specs.Numbers.{fitOf}
+use Rattle.tablet.specs.Slices.{answered}
+use Rattle.tablet.specs.Contracts.{Warped, RecordWarped}
 
 -- the number of a verdict that has the number n
 pub number-is : (v : Verdict) (n r : ℕ) → v ≡ verdictOf n → r ≡ numberOf v → r ≡ n
@@ -67,19 +69,34 @@ pub writing : (heads numbers : List ℕ) (count : ℕ) (book book′ : List ℕ)
 unfolding numberFor
 writing heads numbers count book book′ a r e s = record { given = given-number a _ _ r (s .given) e; accepted = s .accepted; refused = s .refused }
 
-pub warping : (img : Image) (f : FrameSpec) (fit : List Float) (t : GeometryFit) (c c′ : List ℕ) (v : Verdict) (r : ℕ) → t ≡ fitOf fit → r
-    ≡ numberOf v → Warping img f t c c′ v → Warping img f (fitOf fit) c c′ (verdictOf r)
-warping img f fit t c c′ v r p e s =
+-- .. with its value in a slice of one, where it is accepted
+one-told : (a : Number) (n v r : ℕ) (counts : List ℕ) → a ≡ numberAs n v → r ≡ numberRefusal a → answered r (numberValue a ∷ []) counts ≡ answered r (v ∷ []) counts
+unfolding numberAs numberValue numberRefusal answered
+one-told a zero v r counts g e = ap (λ k. answered r (k ∷ []) counts) (ap numberValue g)
+one-told a (suc n) v r counts g e =
+    let z : r ≡ suc n = e ∙ ap numberRefusal g in
+    ap (λ k. answered k (numberValue a ∷ []) counts) z ∙ sym (ap (λ k. answered k (v ∷ []) counts) z)
+
+pub warping : (img : Image) (f : FrameSpec) (fit : List Float) (t : GeometryFit) (c c′ counts counts′ : List ℕ) (a : Number) (r : ℕ) → t ≡ fitOf fit
+    → r ≡ numberRefusal a → counts′ ≡ answered r (numberValue a ∷ []) counts → Warping img f t c c′ a → Warped img f fit c c′ counts counts′ r
+unfolding numberFor
+warping img f fit t c c′ counts counts′ a r p e k s =
     record {
-      given = verdict-is v _ r (s .given) e;
-      accepted = λ z. s .accepted z ∙ ap (λ t. warped img f t c) p;
-      refused = s .refused;
+      warping =
+          subst (λ (y : GeometryFit). Warping img f y c c′ (numberAs r (beyond img f y))) p
+          (record { given = given-number a _ _ r (s .given) e; accepted = s .accepted; refused = s .refused });
+      counts-are = k ∙ one-told a _ _ r counts (s .given) e ∙ ap (λ (y : GeometryFit). answered r (beyond img f y ∷ []) counts) p;
     }
 
-pub record-warping : (img : Image) (f : FrameSpec) (t u : FitRecord) (c c′ : List ℕ) (v : Verdict) (r : ℕ) → t ≡ u → r ≡ numberOf v → RecordWarping img f t c c′ v
-    → RecordWarping img f u c c′ (verdictOf r)
-record-warping img f t u c c′ v r p e s =
-    subst (λ (y : FitRecord). RecordWarping img f y c c′ (verdictOf r)) p (record { given = verdict-is v _ r (s .given) e; accepted = s .accepted; refused = s .refused })
+pub record-warping : (img : Image) (f : FrameSpec) (t u : FitRecord) (c c′ counts counts′ : List ℕ) (a : Number) (r : ℕ) → t ≡ u → r ≡ numberRefusal a
+    → counts′ ≡ answered r (numberValue a ∷ []) counts → RecordWarping img f t c c′ a → RecordWarped img f u c c′ counts counts′ r
+unfolding numberFor
+record-warping img f t u c c′ counts counts′ a r p e k s =
+    subst (λ (y : FitRecord). RecordWarped img f y c c′ counts counts′ r) p
+    (record {
+      warping = record { given = given-number a _ _ r (s .given) e; accepted = s .accepted; refused = s .refused };
+      counts-are = k ∙ one-told a _ _ r counts (s .given) e;
+    })
 
 pub labelling : (m : List ℕ) (w h : ℕ) (a b : PatchAreas) (v : Verdict) (n waited r : ℕ) → r ≡ numberOf v → Labelling m w h a b v n waited
     → Labelling m w h a b (verdictOf r) n waited

@@ -7,7 +7,7 @@ use native.Mathlib.Nat.{mul-le-mul}
 use native.Mathlib.Omega.{arith}
 use lib.Dec.{T, leb}
 use borrow.Author.Tests.{leb-true}
-use lib.ListN.{length, getD, drop, length-append, length-drop}
+use lib.ListN.{length, getD, set, drop, length-append, length-drop}
 use Rattle.base.specs.Loops.{filled}
 use Rattle.base.proofs.Table.{table-is, filled-front}
 use Rattle.frame.specs.Refusals.{Check, check, lowestOf}
@@ -26,6 +26,14 @@ module _ {A : Type 0} (v l : List A) (d : A) (h : length v ≤ length l) where
 pub length-written : {A : Type 0} (v l : List A) → length v ≤ length l → length (written v l) ≡ length l
 unfolding written
 length-written v l h = simp (length-append, length-drop) (omega arith)
+
+-- one value more, stored behind those that were written
+pub written-next : {A : Type 0} (v l : List A) (b : A) → length v < length l → set (written v l) (length v) b ≡ written (v ++ (b ∷ [])) l
+unfolding written
+written-next [] [] b h = absurd (omega arith)
+written-next [] (x ∷ l) b h = refl
+written-next (a ∷ v) [] b h = absurd (omega arith)
+written-next (a ∷ v) (x ∷ l) b h = ap (λ r. a ∷ r) (unfold written in written-next v l b (omega arith))
 
 -- ---- a call's answer, from the number of its tests
 

@@ -6,14 +6,17 @@ use Prim.Native.Nat.{ℕ}
 use lib.ListN.{length}
 use lib.Ieee.{Float}
 use Rattle.frame.specs.Image.{Image}
+use Rattle.frame.specs.Answers.{numberAs}
 use Rattle.frame.specs.Refusals.{verdictOf}
 use Rattle.frame.specs.declared.FrameSpec.{FrameSpec}
 use Rattle.blobs.specs.Areas.{PatchAreas}
 use Rattle.blobs.specs.Contracts.{Labelling}
 use Rattle.fit.specs.Contracts.{Scoring, scoredAs}
 use Rattle.fit.specs.Grid.{gradeOf, scoreOf}
-use Rattle.book.specs.Layout.{recordAt}
+use Rattle.book.specs.Layout.{recordAt, fitIn}
+use Rattle.book.specs.declared.FitRecord.{FitRecord}
 use Rattle.geometry.specs.Contracts.{Warping, RecordWarping}
+use Rattle.geometry.specs.Warp.{beyond}
 use Rattle.candidates.specs.Areas.{Areas}
 use Rattle.candidates.specs.Contracts.{Listing}
 use Rattle.fiducials.specs.Contracts.{Detection}
@@ -24,17 +27,29 @@ use Rattle.fit.specs.Numbers.{fitOf}
 use Rattle.tablet.specs.Layouts.{gradeNumbers, listNumbers, placeNumbers, quadNumbers}
 use Rattle.tablet.specs.Tests.{captureFirst, maskFirst}
 
--- `warp_with`
-abbrev pub Warped : Image → FrameSpec → List Float → List ℕ → List ℕ → ℕ → Type 0
-Warped img f fit c c′ r =
-    Over (short fit 13) (captureFirst img f) r (c′ ≡ c) (Warping img f (fitOf fit) c c′ (verdictOf r))
+-- `warp_with`: its answer, and the number in the slice for counts
+pub record Warped (img : Image) (f : FrameSpec) (fit : List Float) (c c′ counts counts′ : List ℕ) (r : ℕ) : Type 0 where
+  pub warping : Warping img f (fitOf fit) c c′ (numberAs r (beyond img f (fitOf fit)))
+  pub counts-are : counts′ ≡ answered r (beyond img f (fitOf fit) ∷ []) counts
+
+abbrev pub WarpedOver : Image → FrameSpec → List Float → List ℕ → List ℕ → List ℕ → List ℕ → ℕ → Type 0
+WarpedOver img f fit c c′ counts counts′ r =
+    Over (short fit 13 || short counts 1) (captureFirst img f) r ((c′ ≡ c) × (counts′ ≡ counts))
+    (Warped img f fit c c′ counts counts′ r)
 
 -- [21.7] `warp_record`: the record of that grade and the first thirteen numbers; its panel and camera, which the warp
 -- does not look at, are 0
-abbrev pub RecordWarped : Image → FrameSpec → ℕ → List ℕ → List ℕ → List ℕ → ℕ → Type 0
-RecordWarped img f grade numbers c c′ r =
-    Over (short numbers 13) (captureFirst img f) r (c′ ≡ c)
-    (RecordWarping img f (recordAt (0 ∷ 0 ∷ grade ∷ []) numbers 0) c c′ (verdictOf r))
+abbrev pub recordOver : ℕ → List ℕ → FitRecord
+recordOver grade numbers = recordAt (0 ∷ 0 ∷ grade ∷ []) numbers 0
+
+pub record RecordWarped (img : Image) (f : FrameSpec) (kept : FitRecord) (c c′ counts counts′ : List ℕ) (r : ℕ) : Type 0 where
+  pub warping : RecordWarping img f kept c c′ (numberAs r (beyond img f (fitIn kept)))
+  pub counts-are : counts′ ≡ answered r (beyond img f (fitIn kept) ∷ []) counts
+
+abbrev pub RecordWarpedOver : Image → FrameSpec → ℕ → List ℕ → List ℕ → List ℕ → List ℕ → List ℕ → ℕ → Type 0
+RecordWarpedOver img f grade numbers c c′ counts counts′ r =
+    Over (short numbers 13 || short counts 1) (captureFirst img f) r ((c′ ≡ c) × (counts′ ≡ counts))
+    (RecordWarped img f (recordOver grade numbers) c c′ counts counts′ r)
 
 -- `grid_score`: its answer, and the numbers in the slices for grade and score
 pub record Graded (img : Image) (f : FrameSpec) (fit means means′ : List Float) (grade grade′ : List ℕ)

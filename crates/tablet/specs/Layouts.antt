@@ -1,4 +1,5 @@
 -- In which order numbers stand in a slice (host/include/tablet.h). Assumes nothing.
+use mathlib.Core.Bool.{cond}
 use mathlib.Core.List.{List, [], _∷_, _++_}
 use Prim.Native.Nat.{ℕ, _*_}
 use lib.Ieee.{Float}
@@ -8,7 +9,7 @@ use Rattle.fit.specs.Numbers.{at, gradeNumber}
 use Rattle.frame.specs.declared.FrameSpec.{FrameSpec}
 use Rattle.frame.specs.declared.Point.{Point}
 use Rattle.frame.specs.declared.Quad.{Quad}
-use Rattle.frame.specs.declared.Rgb.{Rgb}
+use Rattle.sampling.specs.declared.Sample.{Sample}
 use Rattle.radial.specs.declared.Radial.{Radial}
 use Rattle.candidates.specs.declared.Lengths.{Lengths}
 use Rattle.fiducials.specs.declared.Places.{Places}
@@ -43,8 +44,9 @@ pointNumbers p = p .x ∷ p .y ∷ []
 unfoldable pub quadNumbers : Quad → List Float
 quadNumbers q = q .tl .x ∷ q .tl .y ∷ q .tr .x ∷ q .tr .y ∷ q .br .x ∷ q .br .y ∷ q .bl .x ∷ q .bl .y ∷ []
 
-unfoldable pub colourNumbers : Rgb → List ℕ
-colourNumbers c = c .r ∷ c .g ∷ c .b ∷ []
+-- "red, green, blue, and 1 where the position was inside the picture, else 0"
+unfoldable pub colourNumbers : Sample → List ℕ
+colourNumbers s = s .colour .r ∷ s .colour .g ∷ s .colour .b ∷ cond (s .inside) 1 0 ∷ []
 
 -- the outside cell, 0 where there is none
 unfoldable pub outsideCell : Grade → ℕ

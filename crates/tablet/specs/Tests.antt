@@ -45,7 +45,7 @@ lensTests w h lens = sideTests w h ++ (check 3 (short lens 4) ∷ [])
 
 -- `bilinear`
 unfoldable pub colourTests : Image → List ℕ → List Check
-colourTests img colour = captureTests img ++ (check 3 (short colour 3) ∷ [])
+colourTests img colour = captureTests img ++ (check 3 (short colour 4) ∷ [])
 
 -- `marker_size`, `quiet_zone`, `margin_for`
 unfoldable pub markerTests : ℕ → List ℕ → List Check

@@ -14,6 +14,7 @@ use markers::Centers;
 use radial::Lens;
 use radial::Radial;
 use sampling::Colour;
+use sampling::Sample;
 ghost use mathlib.Core.Path.{_≡_};
 ghost use mathlib.Core.Bool.{_&&_};
 ghost use lib.Dec.{leb};
@@ -91,13 +92,16 @@ pub fn colour_number(a: Colour) -> u32
     }
 }
 
-// The colour, black where it is refused.
-pub fn colour_value(a: Colour) -> Rgb
+// The colour and whether its position was inside; where it is refused black, and not inside.
+pub fn colour_value(a: Colour) -> Sample
     ensures { λ r. ⌜ r ≡ colourValue a ⌝ }
 {
     match a {
-        Colour::Is(c) => c,
-        Colour::Refused(_) => Rgb { r: 0, g: 0, b: 0 },
+        Colour::Is(s) => s,
+        Colour::Refused(_) => Sample {
+            colour: Rgb { r: 0, g: 0, b: 0 },
+            inside: false,
+        },
     }
 }
 

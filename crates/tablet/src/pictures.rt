@@ -2,23 +2,31 @@
 use super::answers::capture_first;
 use super::answers::colour_number;
 use super::answers::colour_value;
+use super::answers::count_number;
+use super::answers::count_value;
 use super::answers::mask_first;
 use super::answers::number_of;
+use super::slices::short;
 use super::slices::store_bytes;
 use super::slices::store_counts;
 use book::internal::record_at;
 use frame::FrameSpec;
+use frame::Number;
 ghost use mathlib.Core.Path.{_≡_};
+ghost use mathlib.Core.List.{[], _∷_};
+ghost use Prim.Native.Nat.{_≤_};
+ghost use lib.ListN.{length};
+ghost use Rattle.frame.specs.Answers.{numberRefusal, numberValue};
 ghost use Rattle.frame.specs.Image.{image};
 ghost use Rattle.sampling.specs.Luma.{lumaOf};
-ghost use Rattle.sampling.specs.Reading.{bilinear};
+ghost use Rattle.sampling.specs.Reading.{sampleAt};
 ghost use Rattle.blobs.specs.Areas.{patchAreas};
-ghost use Rattle.tablet.specs.Slices.{Answer};
+ghost use Rattle.tablet.specs.Slices.{answered, Answer};
 ghost use Rattle.tablet.specs.Layouts.{frame, colourNumbers};
 ghost use Rattle.tablet.specs.Tests.{colourTests};
-ghost use Rattle.tablet.specs.Contracts.{Warped, RecordWarped, LabelledOver};
+ghost use Rattle.tablet.specs.Contracts.{WarpedOver, RecordWarpedOver, LabelledOver};
 
-// The colour of a capture at a position.
+// The colour of a capture at a position, and whether that is inside the picture.
 #[no_mangle]
 pub extern "C" fn tablet_bilinear(
     capture: &[u8],
@@ -29,7 +37,7 @@ pub extern "C" fn tablet_bilinear(
     colour: &mut [u8],
 ) -> u32
     ensures { λ r. ⌜ Answer (colourTests (image w h (now (capture .entry))) (now (colour .entry))) (colourNumbers
-        (bilinear (image w h (now (capture .entry))) (record { x = x; y = y }))) (now (colour .entry)) r
+        (sampleAt (image w h (now (capture .entry))) (record { x = x; y = y }))) (now (colour .entry)) r
         (now (colour .exit)) ⌝ }
 {
     let a = sampling::bilinear(capture, w, h, x, y);
@@ -37,11 +45,12 @@ pub extern "C" fn tablet_bilinear(
     if n != 0 {
         return n;
     }
-    if colour.len() < 3 {
+    if colour.len() < 4 {
         return 3;
     }
-    let c = colour_value(a);
-    store_bytes(colour, &[c.r, c.g, c.b]);
+    let s = colour_value(a);
+    let c = s.colour;
+    store_bytes(colour, &[c.r, c.g, c.b, s.inside as u8]);
     0
 }
 
@@ -53,7 +62,22 @@ pub extern "C" fn tablet_luma(r: u8, g: u8, b: u8) -> f32
     sampling::luma(r, g, b)
 }
 
-// Lays the canonical image out under a fit of 13 numbers.
+// The number of an answer, with its count where it is accepted.
+fn answer_count(a: Number, counts: &mut [u64]) -> u32
+    requires { ⌜ 1 ≤ length (now counts) ⌝ }
+    ensures { λ r. ⌜ (r ≡ numberRefusal a) × (now (counts .exit) ≡ answered r (numberValue a ∷ [])
+        (now (counts .entry))) ⌝ }
+{
+    let n = count_number(a);
+    if n != 0 {
+        return n;
+    }
+    store_counts(counts, &[count_value(a)]);
+    n
+}
+
+// Lays the canonical image out under a fit of 13 numbers, and counts the pixels whose position was
+// not inside the picture.
 #[no_mangle]
 pub extern "C" fn tablet_warp_with(
     capture: &[u8],
@@ -65,9 +89,11 @@ pub extern "C" fn tablet_warp_with(
     margin: usize,
     fit: &[f64],
     canonical: &mut [u8],
+    counts: &mut [u64],
 ) -> u32
-    ensures { λ r. ⌜ Warped (image w h (now (capture .entry))) (frame width height cell margin) (now (fit .entry))
-        (now (canonical .entry)) (now (canonical .exit)) r ⌝ }
+    ensures { λ r. ⌜ WarpedOver (image w h (now (capture .entry))) (frame width height cell margin)
+        (now (fit .entry)) (now (canonical .entry)) (now (canonical .exit)) (now (counts .entry)) (now (counts .exit))
+        r ⌝ }
 {
     let f = FrameSpec {
         width: width,
@@ -75,12 +101,12 @@ pub extern "C" fn tablet_warp_with(
         cell: cell,
         margin: margin,
     };
-    if fit.len() < 13 {
+    if short(fit.len(), 13, counts.len(), 1) {
         return capture_first(capture, w, h, f);
     }
     let t = fit::internal::fit_of(fit);
-    let v = geometry::warp_with(capture, w, h, f, t, canonical);
-    number_of(v)
+    let a = geometry::warp_with(capture, w, h, f, t, canonical);
+    answer_count(a, counts)
 }
 
 // The same under a book's record: its grade, and the 13 bit patterns of its fit.
@@ -96,9 +122,11 @@ pub extern "C" fn tablet_warp_record(
     grade: u32,
     numbers: &[u64],
     canonical: &mut [u8],
+    counts: &mut [u64],
 ) -> u32
-    ensures { λ r. ⌜ RecordWarped (image w h (now (capture .entry))) (frame width height cell margin) grade
-        (now (numbers .entry)) (now (canonical .entry)) (now (canonical .exit)) r ⌝ }
+    ensures { λ r. ⌜ RecordWarpedOver (image w h (now (capture .entry))) (frame width height cell margin) grade
+        (now (numbers .entry)) (now (canonical .entry)) (now (canonical .exit)) (now (counts .entry))
+        (now (counts .exit)) r ⌝ }
 {
     let f = FrameSpec {
         width: width,
@@ -106,12 +134,12 @@ pub extern "C" fn tablet_warp_record(
         cell: cell,
         margin: margin,
     };
-    if numbers.len() < 13 {
+    if short(numbers.len(), 13, counts.len(), 1) {
         return capture_first(capture, w, h, f);
     }
     let kept = record_at(&[0, 0, grade], numbers, 0);
-    let v = geometry::warp_record(capture, w, h, f, kept, canonical);
-    number_of(v)
+    let a = geometry::warp_record(capture, w, h, f, kept, canonical);
+    answer_count(a, counts)
 }
 
 // Labels the patches of a mask.

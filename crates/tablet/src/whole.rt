@@ -10,6 +10,7 @@ use fit::internal::grade_number;
 use fit::internal::score_of;
 use fit_geometry::PictureFit;
 use frame::FrameSpec;
+use geometry::Rectified;
 use search::Outcome;
 ghost use mathlib.Core.Path.{_≡_};
 ghost use Prim.Native.Nat.{_≤_};
@@ -117,7 +118,8 @@ fn store_scored(fit: &mut [f64], a: PictureFit)
 // The number of an answer, with the counts unless a test refused and the fit where it is accepted.
 fn tell(a: PictureFit, counts: &mut [u64], fit: &mut [f64]) -> u32
     requires { ⌜ (11 ≤ length (now counts)) × (14 ≤ length (now fit)) ⌝ }
-    ensures { λ r. ⌜ whole.Told a (now (counts .entry)) (now (counts .exit)) (now (fit .entry)) (now (fit .exit)) r ⌝ }
+    ensures { λ r. ⌜ whole.Told a (whole.foundNumbers a) (now (counts .entry)) (now (counts .exit)) (now (fit .entry))
+        (now (fit .exit)) r ⌝ }
 {
     let verdict = a.verdict;
     let n = number_of(verdict);
@@ -129,6 +131,21 @@ fn tell(a: PictureFit, counts: &mut [u64], fit: &mut [f64]) -> u32
         return n;
     }
     store_scored(fit, a);
+    n
+}
+
+// The same with the twelfth count, of an answer of `rectify`.
+fn tell_flat(a: Rectified, counts: &mut [u64], fit: &mut [f64]) -> u32
+    requires { ⌜ (12 ≤ length (now counts)) × (14 ≤ length (now fit)) ⌝ }
+    ensures { λ r. ⌜ whole.Told (a .picture) (whole.flatNumbers (a .picture) (a .beyond)) (now (counts .entry))
+        (now (counts .exit)) (now (fit .entry)) (now (fit .exit)) r ⌝ }
+{
+    let picture = a.picture;
+    let n = tell(picture, counts, fit);
+    if untouched(n) {
+        return n;
+    }
+    counts[11] = a.beyond as u64;
     n
 }
 
@@ -229,7 +246,7 @@ pub extern "C" fn tablet_rectify(
         cell: cell,
         margin: margin,
     };
-    if short(counts.len(), 11, fit.len(), 14) {
+    if short(counts.len(), 12, fit.len(), 14) {
         return capture_first(capture, w, h, f);
     }
     let a = geometry::rectify(
@@ -248,5 +265,5 @@ pub extern "C" fn tablet_rectify(
         means,
         canonical,
     );
-    tell(a, counts, fit)
+    tell_flat(a, counts, fit)
 }

@@ -5,6 +5,7 @@ use fit::GeometryFit;
 use fit::Grade;
 use fit_geometry::PictureFit;
 use frame::Verdict;
+use geometry::Rectified;
 use search::Outcome;
 ghost use Prim.Native.Nat.{_+_, _*_, _≤_, _<_};
 ghost use lib.ListN.{length};
@@ -45,7 +46,7 @@ pub(crate) fn head(capture: usize, s: Sizes) {
 
 // The rest of the block, as far as the answer of `rectify` goes; its number.
 pub(crate) fn answer(
-    r: PictureFit,
+    rectified: Rectified,
     s: Sizes,
     mask: &[u8],
     patches: &[u64],
@@ -53,6 +54,7 @@ pub(crate) fn answer(
     blob_index: &[u32],
     canonical: &[u8],
 ) -> u32 {
+    let r = rectified.picture;
     let verdict = r.verdict;
     let number = number_of(verdict);
     let refusal = [number as u64];
@@ -67,6 +69,8 @@ pub(crate) fn answer(
     if number == 0 {
         flat(r);
         first(b"canonical", canonical, s.bytes);
+        let beyond = [rectified.beyond as u64];
+        line(b"beyond", &beyond);
     }
     number
 }

@@ -1,13 +1,14 @@
-// Runs `bilinear` and `luma` on outside vectors, and prints each colour as six hexadecimal digits
-// and each luma's pattern as eight. The expected output is the original's:
-// host/vectors/src/bin/sampling.rs says what stdin holds, and how to make both again.
+// Runs `bilinear` and `luma` on outside vectors, and prints each colour as six hexadecimal digits,
+// with 1 behind it where its position is inside the picture, else 0, and each luma's pattern as
+// eight. The expected output is the original's: host/vectors/src/bin/sampling.rs says what stdin
+// holds, and how to make both again.
 use sampling::Colour;
 
 // The picture is 5 by 4, in 60 bytes; the places follow from this word on,
 const FIRST: usize = 8;
 
 // and the pixels from this byte on.
-const PIXELS: usize = 4864;
+const PIXELS: usize = 6800;
 
 fn main() {
     let mut buf = io::large_buffer();
@@ -59,10 +60,13 @@ fn lumas(b: &[u8]) {
 
 fn print(answer: Colour) {
     match answer {
-        Colour::Is(c) => {
+        Colour::Is(s) => {
+            let c = s.colour;
             io::print_hex(1, c.r as u64, 2);
             io::print_hex(1, c.g as u64, 2);
             io::print_hex(1, c.b as u64, 2);
+            io::write_all(1, b" ");
+            io::print_decimal(1, s.inside as u64);
         }
         Colour::Refused(n) => {
             io::write_all(1, b"refused ");

@@ -19,7 +19,7 @@ pub(crate) fn rectify(capture: &[u8; 43008]) {
     let mut blob_index = [9u32; 456];
     let mut means = [0.0; 29];
     let mut canonical = [9u8; 119808];
-    let mut counts = [9u64; 11];
+    let mut counts = [9u64; 12];
     let mut fit = [0.0; 14];
     let r = tablet::tablet_rectify(
         capture,
@@ -44,7 +44,7 @@ pub(crate) fn rectify(capture: &[u8; 43008]) {
     );
     word(r as u64);
     words(&counts, 0, 2);
-    words(&counts, 3, 11);
+    words(&counts, 3, 12);
     floats(&fit, 0, 14);
     looked(
         &luma,

@@ -28,6 +28,9 @@ fn main() {
     moved[2] = moved[2] + 40.0;
     grid_score(&capture, &moved);
     warp_with(&capture, &fit);
+    // A fit of NaNs: no position is inside.
+    let none = [0.0 / 0.0; 13];
+    warp_with(&capture, &none);
     let numbers = patterns(&fit);
     warp_record(&capture, 0, &numbers);
     warp_record(&capture, 1, &numbers);
@@ -85,9 +88,22 @@ fn grid_score(capture: &[u8; 43008], fit: &[f64; 13]) {
 }
 
 fn warp_with(capture: &[u8; 43008], fit: &[f64; 13]) {
-    let mut canonical = [0u8; 119808];
-    let r = tablet::tablet_warp_with(capture, 128, 112, 208, 192, 8, 48, fit, &mut canonical);
+    let mut canonical = [5u8; 119808];
+    let mut counts = [9u64; 1];
+    let r = tablet::tablet_warp_with(
+        capture,
+        128,
+        112,
+        208,
+        192,
+        8,
+        48,
+        fit,
+        &mut canonical,
+        &mut counts,
+    );
     word(r as u64);
+    words(&counts, 0, 1);
     bytes(&canonical, 936);
 }
 
@@ -101,6 +117,7 @@ fn patterns(fit: &[f64; 13]) -> [u64; 13] {
 
 fn warp_record(capture: &[u8; 43008], grade: u32, numbers: &[u64; 13]) {
     let mut canonical = [5u8; 119808];
+    let mut counts = [9u64; 1];
     let r = tablet::tablet_warp_record(
         capture,
         128,
@@ -112,8 +129,10 @@ fn warp_record(capture: &[u8; 43008], grade: u32, numbers: &[u64; 13]) {
         grade,
         numbers,
         &mut canonical,
+        &mut counts,
     );
     word(r as u64);
+    words(&counts, 0, 1);
     bytes(&canonical, 936);
 }
 

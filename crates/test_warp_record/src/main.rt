@@ -5,7 +5,7 @@
 use base::min;
 use book::FitRecord;
 use frame::FrameSpec;
-use frame::Verdict;
+use frame::Number;
 
 // A call at a time, to the end of stdin.
 fn main() {
@@ -38,7 +38,7 @@ fn answer(head: &[u8], capture: &mut [u8], canonical: &mut [u8]) {
         margin: size_at(head, 6),
     };
     let kept = kept_in(head);
-    let verdict = geometry::warp_record(
+    let number = geometry::warp_record(
         capture,
         size_at(head, 0),
         size_at(head, 1),
@@ -46,7 +46,7 @@ fn answer(head: &[u8], capture: &mut [u8], canonical: &mut [u8]) {
         kept,
         canonical,
     );
-    print(verdict);
+    print(number);
     bytes(canonical);
 }
 
@@ -75,12 +75,13 @@ fn cover(canonical: &mut [u8]) {
     }
 }
 
-fn print(verdict: Verdict) {
-    match verdict {
-        Verdict::Accepted => {
-            io::write_all(1, b"accepted");
+fn print(number: Number) {
+    match number {
+        Number::Is(beyond) => {
+            io::write_all(1, b"accepted ");
+            io::print_decimal(1, beyond as u64);
         }
-        Verdict::Refused(n) => {
+        Number::Refused(n) => {
             io::write_all(1, b"refused ");
             io::print_decimal(1, n as u64);
         }

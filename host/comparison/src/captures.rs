@@ -89,9 +89,11 @@ pub fn check(c: &Case) -> Result<u32, String> {
         Some(flat) if number == 0 => {
             fitted(&counts, &fit, c, &a)?;
             eq("grade", counts[ffi::GRADE], ffi::SCORED)?;
+            eq("beyond", counts[ffi::BEYOND] as usize, flat.beyond)?;
             each("canonical image", &m.canonical, &flat.canonical, |b| b)?;
         }
         _ => {
+            eq("beyond", counts[ffi::BEYOND], if number >= 7 { 0 } else { 77 })?;
             each("canonical image", &m.canonical, &untouched, |b| b)?;
             each("fit", &fit, &[f64::NAN; ffi::SCORED_FIT_LEN], bits)?;
         }
@@ -126,6 +128,7 @@ fn others(c: &Case, a: &Answer) -> Result<(), String> {
     let (mut areas, means, _) = m.lend();
     let number = ffi::fit_geometry(&c.data, c.w, c.h, c.frame, &mut areas, means, &mut counts, &mut fit);
     eq("fit_geometry", number, a.number)?;
+    eq("fit_geometry's twelfth count", counts[ffi::BEYOND], 77)?;
     if a.flat.is_some() {
         fitted(&counts, &fit, c, a).map_err(|e| format!("fit_geometry: {e}"))?;
     }
@@ -138,20 +141,27 @@ fn others(c: &Case, a: &Answer) -> Result<(), String> {
         listed(&m.patches, counts[0], counts[1], &look.patches).map_err(|e| format!("label_blobs: {e}"))?;
         each("label_blobs' marks", &m.seen, &look.mask, |b| b)?;
     }
-    if let Some(flat) = &a.flat {
-        let (mut grade, mut score) = ([77; 2], [f64::NAN]);
-        let number = ffi::grid_score(&c.data, c.w, c.h, c.frame, &flat.fit, &mut m.means, &mut grade, &mut score);
-        eq("grid_score", number, 0)?;
-        graded(&o::image(c), c.frame, &flat.fit, grade, score[0]).map_err(|e| format!("grid_score: {e}"))?;
-        eq("warp_with", ffi::warp_with(&c.data, c.w, c.h, c.frame, &flat.fit, &mut m.canonical), 0)?;
-        each("warp_with's image", &m.canonical, &flat.canonical, |b| b)?;
-        // The record that keeps this fit, over a card that is there.
-        let before: Vec<u8> = flat.canonical.iter().map(|b| !b).collect();
-        m.canonical.copy_from_slice(&before);
-        let numbers = flat.fit.map(f64::to_bits);
-        let number = ffi::warp_record(&c.data, c.w, c.h, c.frame, grade[0] as u32, &numbers, &mut m.canonical);
-        eq("warp_record", number, a.rectify_number())?;
-        each("warp_record's image", &m.canonical, if number == 0 { &flat.canonical } else { &before }, |b| b)?;
+    match &a.flat {
+        Some(flat) => under_the_fit(c, flat, a.rectify_number(), &mut m),
+        None => Ok(()),
     }
-    Ok(())
+}
+
+/// grid_score, warp_with and warp_record of the original's fit.
+fn under_the_fit(c: &Case, flat: &Flat, of_record: u32, m: &mut Memory) -> Result<(), String> {
+    let (mut grade, mut score, mut beyond) = ([77; 2], [f64::NAN], [77; ffi::WARPED_LEN]);
+    let number = ffi::grid_score(&c.data, c.w, c.h, c.frame, &flat.fit, &mut m.means, &mut grade, &mut score);
+    eq("grid_score", number, 0)?;
+    graded(&o::image(c), c.frame, &flat.fit, grade, score[0]).map_err(|e| format!("grid_score: {e}"))?;
+    eq("warp_with", ffi::warp_with(&c.data, c.w, c.h, c.frame, &flat.fit, &mut m.canonical, &mut beyond), 0)?;
+    each("warp_with's image", &m.canonical, &flat.canonical, |b| b)?;
+    eq("warp_with's beyond", beyond, [flat.beyond as u64])?;
+    // The record that keeps this fit, over a card that is there.
+    let before: Vec<u8> = flat.canonical.iter().map(|b| !b).collect();
+    m.canonical.copy_from_slice(&before);
+    let (numbers, mut beyond) = (flat.fit.map(f64::to_bits), [77; ffi::WARPED_LEN]);
+    let number = ffi::warp_record(&c.data, c.w, c.h, c.frame, grade[0] as u32, &numbers, &mut m.canonical, &mut beyond);
+    eq("warp_record", number, of_record)?;
+    each("warp_record's image", &m.canonical, if number == 0 { &flat.canonical } else { &before }, |b| b)?;
+    eq("warp_record's beyond", beyond, [if number == 0 { flat.beyond as u64 } else { 77 }])
 }

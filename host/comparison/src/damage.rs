@@ -53,6 +53,9 @@ const FUNCTIONS: &[Function] = &[
     Function::WriteBook,
 ];
 
+/// Where a colour is read.
+const PLACE: [f64; 2] = [1.25, 0.75];
+
 /// Those that are handed neither a frame nor a picture.
 fn apart(f: Function) -> bool {
     matches!(f, Function::CandidatePage | Function::ReadBook | Function::WriteBook)
@@ -156,7 +159,7 @@ fn lowest(c: &Call, seen: Numbers) -> u32 {
     let tests: &[(u32, bool)] = &match c.function {
         Function::Rectify => vec![
             (2, capture_bad),
-            (3, look_short || means_short || counts < 11 || numbers < 14),
+            (3, look_short || means_short || counts < 12 || numbers < 14),
             (4, card_wrong),
             (5, no_layout),
             (6, tiny),
@@ -187,14 +190,14 @@ fn lowest(c: &Call, seen: Numbers) -> u32 {
         ],
         Function::Checkerboard => vec![(3, m.mask.len() < s.pixels)],
         Function::GridScore => vec![(2, capture_bad), (3, given < 13 || means_short || counts < 2 || numbers < 1)],
-        Function::WarpWith => vec![(2, capture_bad), (3, given < 13), (4, card_wrong)],
-        Function::WarpRecord => vec![(2, capture_bad), (3, given < 13), (4, card_wrong), (16, c.grade != 0)],
+        Function::WarpWith => vec![(2, capture_bad), (3, given < 13 || counts < 1), (4, card_wrong)],
+        Function::WarpRecord => vec![(2, capture_bad), (3, given < 13 || counts < 1), (4, card_wrong), (16, c.grade != 0)],
         Function::StampFiducials => vec![(2, capture_bad), (5, no_layout)],
         Function::MarkerCenters => vec![(3, numbers < 8), (5, no_layout)],
         // The points of FitFor are never degenerate here.
         Function::FitFor => vec![(3, given < 8 || numbers < 13), (5, no_layout)],
         Function::Lengths => vec![(3, counts < 11)],
-        Function::Bilinear => vec![(2, capture_bad), (3, c.colour.len() < 3)],
+        Function::Bilinear => vec![(2, capture_bad), (3, c.colour.len() < 4)],
         Function::CandidatePage => vec![(pages::text(&c.given, c.count, c.page.len()).err().unwrap_or(0), true)],
         Function::ReadBook | Function::WriteBook => vec![(c.book.expected().0, true)],
     };
@@ -213,16 +216,16 @@ fn run(c: &mut Call) -> u32 {
         Function::LabelBlobs => ffi::label_blobs(areas.mask, w, h, areas.seen, areas.waiting, areas.patches, &mut c.counts),
         Function::Checkerboard => ffi::checkerboard(w, h, areas.mask),
         Function::GridScore => ffi::grid_score(capture, w, h, f, &c.given, means, &mut c.counts, &mut c.numbers),
-        Function::WarpWith => ffi::warp_with(capture, w, h, f, &c.given, canonical),
+        Function::WarpWith => ffi::warp_with(capture, w, h, f, &c.given, canonical, &mut c.counts),
         Function::WarpRecord => {
             let numbers: Vec<u64> = c.given.iter().map(|x| x.to_bits()).collect();
-            ffi::warp_record(capture, w, h, f, c.grade, &numbers, canonical)
+            ffi::warp_record(capture, w, h, f, c.grade, &numbers, canonical, &mut c.counts)
         }
         Function::StampFiducials => ffi::stamp_fiducials(capture, w, h, f),
         Function::MarkerCenters => ffi::marker_centers(f, &mut c.numbers),
         Function::FitFor => ffi::fit_for(w, h, f, &c.given, 0.01, &mut c.numbers),
         Function::Lengths => ffi::lengths(w, h, f, &mut c.counts),
-        Function::Bilinear => ffi::bilinear(capture, w, h, 1.25, 0.75, &mut c.colour),
+        Function::Bilinear => ffi::bilinear(capture, w, h, PLACE[0], PLACE[1], &mut c.colour),
         Function::CandidatePage => ffi::candidate_page(&c.given, c.count, &mut c.page),
         Function::ReadBook | Function::WriteBook => c.book.run(),
     }
@@ -349,10 +352,12 @@ fn call(r: &mut Random, pool: &Pool) -> (Call, Numbers) {
         canonical: vec![0; exact(r, s.canonical, wrong)],
     };
     let counts_len = match function {
-        Function::Rectify | Function::FitGeometry | Function::Lengths => 11,
+        Function::Rectify => 12,
+        Function::FitGeometry | Function::Lengths => 11,
         Function::DetectFiducials => 7,
         Function::FiducialCandidates => 3,
         Function::LabelBlobs | Function::GridScore => 2,
+        Function::WarpWith | Function::WarpRecord => 1,
         _ => 0,
     };
     let numbers_len = match function {
@@ -378,7 +383,7 @@ fn call(r: &mut Random, pool: &Pool) -> (Call, Numbers) {
         memory,
         counts: vec![0; length(r, counts_len, wrong)],
         numbers: vec![0.0; length(r, numbers_len, wrong)],
-        colour: vec![0; length(r, 3, wrong)],
+        colour: vec![0; length(r, 4, wrong)],
         given,
         grade: if r.chance(2.0 * wrong) { r.one_of(&[1, 2, 3, u32::MAX]) } else { 0 },
         count,
@@ -459,18 +464,18 @@ fn written(c: &Call, number: u32) -> (Written, [usize; 3], usize) {
     };
     let accepted = |n: usize| if number == 0 { n } else { 0 };
     match c.function {
-        Function::Rectify => (look(s.means), [11, accepted(14), 0], accepted(s.canonical)),
+        Function::Rectify => (look(s.means), [12, accepted(14), 0], accepted(s.canonical)),
         Function::FitGeometry => (look(s.means), [11, accepted(14), 0], 0),
         Function::DetectFiducials => (look(0), [7, accepted(8), 0], 0),
         Function::FiducialCandidates => (look(0), [3, 0, 0], 0),
         Function::LabelBlobs => (Written { marks: s.pixels, patches: 7 * listed(0), ..nothing }, [2, 0, 0], 0),
         Function::Checkerboard => (Written { mask: s.pixels, ..nothing }, [0; 3], 0),
         Function::GridScore => (Written { means: s.means, ..nothing }, [2, 1, 0], 0),
-        Function::WarpWith | Function::WarpRecord => (nothing, [0; 3], accepted(s.canonical)),
+        Function::WarpWith | Function::WarpRecord => (nothing, [accepted(1), 0, 0], accepted(s.canonical)),
         Function::MarkerCenters => (nothing, [0, accepted(8), 0], 0),
         Function::FitFor => (nothing, [0, accepted(13), 0], 0),
         Function::Lengths => (nothing, [11, 0, 0], 0),
-        Function::Bilinear => (nothing, [0, 0, 3], 0),
+        Function::Bilinear => (nothing, [0, 0, 4], 0),
         Function::StampFiducials => (nothing, [0; 3], 0),
         Function::CandidatePage => (Written { page: 37 * c.count, ..nothing }, [0; 3], 0),
         // A book and its numbers are compared whole, with what they must be.
@@ -533,9 +538,26 @@ fn agree(x: &Call, y: &Call, number: u32) -> Result<(), String> {
     agreed("capture", &x.case.data, &y.case.data, x.case.data.len(), |v| v)
 }
 
-/// What an accepted call of Checkerboard, Lengths or CandidatePage wrote.
+/// The number of pixels beyond the edge that a call told, under the fit that it found or was given.
+fn counted(c: &Call, told: u64, fit: &[f64]) -> Result<(), String> {
+    match original::beyond(&original::fit(fit), c.case.frame, c.case.w, c.case.h) {
+        n if n as u64 == told => Ok(()),
+        n => Err(format!("{told} pixels are told to be beyond the edge, there are {n}")),
+    }
+}
+
+/// What an accepted call wrote: of Rectify and the warps the pixels beyond the edge, of Bilinear whether its place is inside, of
+/// Checkerboard, Lengths and CandidatePage all.
 fn answered(c: &Call) -> Result<(), String> {
     match c.function {
+        Function::Rectify => counted(c, c.counts[ffi::BEYOND], &c.numbers)?,
+        Function::WarpWith | Function::WarpRecord => counted(c, c.counts[0], &c.given)?,
+        Function::Bilinear => {
+            let inside = original::inside(PLACE, c.case.w, c.case.h);
+            if c.colour[3] != u8::from(inside) {
+                return Err(format!("inside is {}, it is {inside}", c.colour[3]));
+            }
+        }
         Function::Checkerboard => {
             let (w, mask) = (c.case.w, &c.memory.mask);
             if let Some(i) = (0..w * c.case.h).find(|&i| mask[i] != boards::square(w, i)) {

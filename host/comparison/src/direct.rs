@@ -125,10 +125,21 @@ fn fit_for_call(r: &mut Random) -> Vec<u64> {
     words
 }
 
+/// An end of a side, what is next to one, and what lies in no side.
+fn end(r: &mut Random, side: usize) -> f64 {
+    let side = side as f64;
+    let (before, past) = (side.next_down(), side.next_up());
+    r.one_of(&[-5e-324, -0.0, 0.0, 5e-324, before, side, past, f64::NAN, f64::INFINITY, f64::NEG_INFINITY])
+}
+
 fn bilinear_call(r: &mut Random) -> Vec<u64> {
     let (w, h, style) = (r.between(1, 6), r.between(1, 6), r.below(6));
-    let mut at = || if style == 5 { r.within(-1.0, 7.0) } else { float(r, style) };
-    let (x, y) = (at(), at());
+    let mut at = |side: usize| match style {
+        _ if r.chance(0.4) => end(r, side),
+        5 => r.within(-1.0, 7.0),
+        _ => float(r, style),
+    };
+    let (x, y) = (at(w), at(h));
     vec![w as u64, h as u64, r.bits(), x.to_bits(), y.to_bits()]
 }
 
@@ -294,27 +305,15 @@ pub fn check(name: &str, w: &[u64]) -> Result<(), String> {
             same("number", &n.map(|v| v as f64), &theirs.map(|v| v as f64))
         }
         "bilinear" => {
-            let (img, mut c) = (picture(w[0], w[1], w[2]), [0; 3]);
+            let (img, mut c) = (picture(w[0], w[1], w[2]), [77; ffi::COLOUR_LEN]);
             numbered(ffi::bilinear(&img.data, img.w, img.h, x[3], x[4], &mut c), 0)?;
-            same("channel", &c.map(f64::from), &g::bilinear(&img, x[3], x[4]).map(f64::from))
+            same("channel", &c.map(f64::from)[..3], &g::bilinear(&img, x[3], x[4]).map(f64::from))?;
+            same("inside", &[c[3].into()], &[u8::from(o::inside([x[3], x[4]], img.w, img.h)).into()])
         }
         "luma" => luma::check(),
         "grid_score" => grid_score(w, &x),
-        "warp_with" => {
-            let (img, f) = (picture(w[0], w[1], w[2]), frame(&w[3..]));
-            let mut card = vec![0; 3 * f.width * f.height];
-            numbered(ffi::warp_with(&img.data, img.w, img.h, f, &x[7..20], &mut card), 0)?;
-            bytes(&card, &g::warp_with(&img, &o::spec(f), &o::fit(&x[7..])).data)
-        }
-        "warp_record" => {
-            let (img, f, grade) = (picture(w[0], w[1], w[2]), frame(&w[3..]), w[20] as u32);
-            let before: Vec<u8> = (0..3 * f.width * f.height).map(|i| i as u8).collect();
-            let mut card = before.clone();
-            let n = ffi::warp_record(&img.data, img.w, img.h, f, grade, &w[7..20], &mut card);
-            numbered(n, if grade == 0 { 0 } else { 16 })?;
-            let laid = g::warp_with(&img, &o::spec(f), &o::fit(&x[7..])).data;
-            bytes(&card, if grade == 0 { &laid } else { &before })
-        }
+        "warp_with" => warp(w, &x, None),
+        "warp_record" => warp(w, &x, Some(w[20] as u32)),
         "stamp_fiducials" => {
             let (mut img, f) = (picture(w[0], w[1], w[2]), frame(&w[3..]));
             let mut ours = img.data.clone();
@@ -336,6 +335,22 @@ fn bytes(ours: &[u8], theirs: &[u8]) -> Result<(), String> {
         None => Err("other lengths".into()),
         Some(i) => Err(format!("byte {i}: {}, the original has {}", ours[i], theirs[i])),
     }
+}
+
+/// `warp_with`, or `warp_record` under a grade.
+fn warp(w: &[u64], x: &[f64], grade: Option<u32>) -> Result<(), String> {
+    let (img, f, fit) = (picture(w[0], w[1], w[2]), frame(&w[3..]), o::fit(&x[7..]));
+    let before: Vec<u8> = (0..3 * f.width * f.height).map(|i| i as u8).collect();
+    let (mut card, mut beyond) = (before.clone(), [77; ffi::WARPED_LEN]);
+    let n = match grade {
+        None => ffi::warp_with(&img.data, img.w, img.h, f, &x[7..20], &mut card, &mut beyond),
+        Some(grade) => ffi::warp_record(&img.data, img.w, img.h, f, grade, &w[7..20], &mut card, &mut beyond),
+    };
+    let laid = grade.unwrap_or(0) == 0;
+    numbered(n, if laid { 0 } else { 16 })?;
+    let count = if laid { o::beyond(&fit, f, img.w, img.h) as f64 } else { 77.0 };
+    same("beyond", &[beyond[0] as f64], &[count])?;
+    bytes(&card, &if laid { g::warp_with(&img, &o::spec(f), &fit).data } else { before })
 }
 
 fn grid_score(w: &[u64], x: &[f64]) -> Result<(), String> {

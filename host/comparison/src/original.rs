@@ -67,6 +67,8 @@ pub struct Flat {
     pub score: f64,
     pub homographies: usize,
     pub canonical: Vec<u8>,
+    /// Of the canonical image.
+    pub beyond: usize,
 }
 
 /// What the original does with a capture inside the limits.
@@ -213,6 +215,18 @@ pub fn grade(img: &RgbImage, f: Frame, fit: &g::GeometryFit) -> (Grade, f64) {
     (grade, score)
 }
 
+/// x and y at least 0, x below w, y below h, and a NaN is not inside.
+pub fn inside([x, y]: [f64; 2], w: usize, h: usize) -> bool {
+    x >= 0.0 && y >= 0.0 && x < w as f64 && y < h as f64
+}
+
+/// How many pixels of the canonical image have a position that is not inside the picture. The original maps each of them, and
+/// counts none.
+pub fn beyond(fit: &g::GeometryFit, f: Frame, w: usize, h: usize) -> usize {
+    let position = |i: usize| fit.map([(i % f.width) as f64 + 0.5, (i / f.width) as f64 + 0.5]);
+    (0..f.width * f.height).filter(|&i| !inside(position(i), w, h)).count()
+}
+
 pub fn answer(case: &Case) -> Answer {
     let mut a = Answer { number: 0, look: None, found: None, flat: None };
     let (img, f) = (image(case), spec(case.frame));
@@ -237,7 +251,8 @@ pub fn answer(case: &Case) -> Answer {
         let Some(fit) = g::fit_geometry(&img, &f) else { break 'number 10 };
         let (grade, score) = grade(&img, case.frame, &fit);
         let canonical = flat.as_ref().expect("a fit, and no card").data.clone();
-        a.flat = Some(Flat { fit: numbers(&fit), grade, score, homographies: homographies(&img, &f, &points), canonical });
+        let (homographies, beyond) = (homographies(&img, &f, &points), beyond(&fit, case.frame, case.w, case.h));
+        a.flat = Some(Flat { fit: numbers(&fit), grade, score, homographies, canonical, beyond });
         0
     };
     assert_eq!(flat.is_some(), a.number == 0, "this package's numbers are not the original's");

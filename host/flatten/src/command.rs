@@ -3,7 +3,7 @@
 use crate::files::{self, Place};
 use crate::options::{self, quoted, Action, Options};
 use crate::phase::{PHASE_LIMIT, SCORE_LIMIT};
-use crate::{overlay, p6, report, Grade, Rectified, Refusal, Workspace};
+use crate::{overlay, p6, report, Frame, Grade, Rectified, Refusal, Workspace};
 use std::ffi::OsString;
 use std::fs::File;
 use std::io::{self, BufReader, IsTerminal, Write};
@@ -28,6 +28,9 @@ standard error.
 
 A card is doubtful where its score is below 60 and its phase, how far its edges lie off the cell borders, above 0.25 of a cell:
 it was laid by the rules, but perhaps by a wrong ring, or the wrong way up. A card that is not doubtful may still be upside down.
+
+A card that leaves the photograph is written too. Its pixels from beyond the picture's edge have the edge's colours, which look
+real: a warning on standard error says how many they are, and so does the report, as `beyond`.
 
 Exit status: 0 accepted; 1 refused, with a line `refused N: why; what to do` on standard error, and after 16 one more that says how
 many cells are sampled or which is outside; 2 bad usage, a bad picture, a file that cannot be read or written, or more than 9999
@@ -127,9 +130,23 @@ fn unscored(workspace: &Workspace) -> Option<String> {
     }
 }
 
-/// Score and phase always, and what to look for where they make the card doubtful.
+/// What is wrong with a card that has so many pixels from beyond the picture's edge.
+fn beyond(count: usize, frame: Frame) -> Option<String> {
+    let (were, colours) = match count {
+        0 => return None,
+        1 => ("was", "its colour looks real, and is not the card's"),
+        _ => ("were", "their colours look real, and are not the card's"),
+    };
+    let all = frame.width * frame.height;
+    Some(format!("{count} of the card's {all} pixels {were} read from beyond the picture's edge; {colours}"))
+}
+
+/// Score and phase always, and what to look for where the card leaves the photograph or is doubtful.
 fn describe(messages: &mut Messages, card: &Rectified, o: &Options) {
     messages.say(&format!("flatten: score {:.1}, phase {:.3}", card.score, card.phase));
+    if let Some(pixels) = beyond(card.beyond, o.frame) {
+        messages.say(&format!("flatten: warning: {pixels}"));
+    }
     if card.doubtful() {
         let overlay = o.overlay.as_ref().map_or("the overlay (--overlay FILE)".into(), |path| path.display().to_string());
         messages
@@ -274,5 +291,24 @@ pub fn run(args: impl IntoIterator<Item = OsString>, stdout_open: bool) -> u8 {
             messages.say(&format!("flatten: {e}"));
             FAILED
         }
+    }
+}
+
+#[cfg(test)]
+mod tests {
+    use super::*;
+
+    #[test]
+    fn one_pixel_or_more() {
+        let said = |count| beyond(count, Frame::BENCH).unwrap_or_default();
+        assert_eq!(said(0), "");
+        assert_eq!(
+            said(1),
+            "1 of the card's 539328 pixels was read from beyond the picture's edge; its colour looks real, and is not the card's"
+        );
+        assert_eq!(
+            said(539328),
+            "539328 of the card's 539328 pixels were read from beyond the picture's edge; their colours look real, and are not the card's"
+        );
     }
 }

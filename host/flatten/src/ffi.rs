@@ -16,6 +16,7 @@ pub const TRIALS: usize = 7;
 pub const HOMOGRAPHIES: usize = 8;
 pub const GRADE: usize = 9;
 pub const OUTSIDE_CELL: usize = 10;
+pub const BEYOND: usize = 11;
 
 /// Grades.
 pub const SCORED: u64 = 0;
@@ -25,15 +26,18 @@ pub const NO_GRADE: u64 = 3;
 
 /// Lengths of result slices.
 pub const LENGTHS_LEN: usize = 11;
-pub const COUNTS_LEN: usize = 11;
+pub const COUNTS_LEN: usize = 12;
+pub const FITTED_LEN: usize = 11;
 pub const DETECTED_LEN: usize = 7;
 pub const LISTED_LEN: usize = 3;
 pub const LABELLED_LEN: usize = 2;
+pub const WARPED_LEN: usize = 1;
 pub const SCORED_FIT_LEN: usize = 14;
 pub const FIT_LEN: usize = 13;
 pub const POINTS_LEN: usize = 8;
 pub const MATRIX_LEN: usize = 9;
 pub const LENS_LEN: usize = 4;
+pub const COLOUR_LEN: usize = 4;
 
 /// A line of the candidate page: 36 columns and a line feed.
 pub const PAGE_LINE_LEN: usize = 37;
@@ -107,11 +111,13 @@ mod c {
             capture: *const u8, capture_len: usize, w: usize, h: usize,
             width: usize, height: usize, cell: usize, margin: usize,
             fit: *const f64, fit_len: usize, canonical: *mut u8, canonical_len: usize,
+            counts: *mut u64, counts_len: usize,
         ) -> u32;
         pub fn tablet_warp_record(
             capture: *const u8, capture_len: usize, w: usize, h: usize,
             width: usize, height: usize, cell: usize, margin: usize,
             grade: u32, numbers: *const u64, numbers_len: usize, canonical: *mut u8, canonical_len: usize,
+            counts: *mut u64, counts_len: usize,
         ) -> u32;
         pub fn tablet_stamp_fiducials(
             image: *mut u8, image_len: usize, w: usize, h: usize,
@@ -280,23 +286,29 @@ pub fn grid_score(
 }
 
 #[rustfmt::skip]
-pub fn warp_with(capture: &[u8], w: usize, h: usize, f: Frame, fit: &[f64], canonical: &mut [u8]) -> u32 {
-    // SAFETY: each slice goes with its own length; the card is borrowed apart from capture and fit.
+pub fn warp_with(
+    capture: &[u8], w: usize, h: usize, f: Frame, fit: &[f64], canonical: &mut [u8], counts: &mut [u64],
+) -> u32 {
+    // SAFETY: each slice goes with its own length; card and counts are borrowed apart from one another and from what is read.
     unsafe {
         c::tablet_warp_with(
             capture.as_ptr(), capture.len(), w, h, f.width, f.height, f.cell, f.margin,
-            fit.as_ptr(), fit.len(), canonical.as_mut_ptr(), canonical.len(),
+            fit.as_ptr(), fit.len(), canonical.as_mut_ptr(), canonical.len(), counts.as_mut_ptr(), counts.len(),
         )
     }
 }
 
 #[rustfmt::skip]
-pub fn warp_record(capture: &[u8], w: usize, h: usize, f: Frame, grade: u32, numbers: &[u64], canonical: &mut [u8]) -> u32 {
-    // SAFETY: each slice goes with its own length; the card is borrowed apart from capture and numbers.
+#[allow(clippy::too_many_arguments)]
+pub fn warp_record(
+    capture: &[u8], w: usize, h: usize, f: Frame, grade: u32, numbers: &[u64], canonical: &mut [u8], counts: &mut [u64],
+) -> u32 {
+    // SAFETY: each slice goes with its own length; card and counts are borrowed apart from one another and from what is read.
     unsafe {
         c::tablet_warp_record(
             capture.as_ptr(), capture.len(), w, h, f.width, f.height, f.cell, f.margin,
             grade, numbers.as_ptr(), numbers.len(), canonical.as_mut_ptr(), canonical.len(),
+            counts.as_mut_ptr(), counts.len(),
         )
     }
 }
@@ -364,6 +376,7 @@ pub fn undistort(lens: &[f64], x: f64, y: f64, point: &mut [f64]) -> u32 {
     unsafe { c::tablet_undistort(lens.as_ptr(), lens.len(), x, y, point.as_mut_ptr(), point.len()) }
 }
 
+/// Red, green, blue, and 1 where the position is inside the picture, else 0.
 pub fn bilinear(capture: &[u8], w: usize, h: usize, x: f64, y: f64, colour: &mut [u8]) -> u32 {
     // SAFETY: both slices go with their own lengths, and the colour is borrowed apart from the capture.
     unsafe { c::tablet_bilinear(capture.as_ptr(), capture.len(), w, h, x, y, colour.as_mut_ptr(), colour.len()) }

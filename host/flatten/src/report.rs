@@ -87,6 +87,7 @@ pub fn report(about: &About, workspace: Option<&Workspace>, answer: &Result<Rect
         ("grade", of_look(&|w| w.grade().map_or(NULL.into(), grade))),
         ("trials", of_search(&|w| w.trials().0.to_string())),
         ("homographies", of_search(&|w| w.trials().1.to_string())),
+        ("beyond", of_fit(&|r| r.beyond.to_string())),
     ];
     let mut out = String::new();
     for (i, (name, value)) in fields.iter().enumerate() {
@@ -131,7 +132,7 @@ mod tests {
                  \"frame\": [848, 636, 10, 106], \"refusal\": 1, \"score\": null, \"phase\": null, \"doubtful\": null, \
                  \"patches\": null, \"waited\": null, \"candidates\": null, \"corners\": null, \
                  \"matrix\": null, \"k\": null, \"cx\": null, \"cy\": null, \"norm\": null, \"grade\": null, \
-                 \"trials\": null, \"homographies\": null}}\n"
+                 \"trials\": null, \"homographies\": null, \"beyond\": null}}\n"
             )
         );
     }

@@ -81,6 +81,9 @@ pub struct Rectified {
     pub corners: [usize; 4],
     pub trials: usize,
     pub homographies: usize,
+    /// How many of the card's pixels lie beyond the picture's edge: they have the edge's colours, which look real. 0 where the whole
+    /// card is in the picture.
+    pub beyond: usize,
 }
 
 impl Rectified {
@@ -218,27 +221,32 @@ impl Workspace {
         let number = ffi::rectify(capture, w, h, frame, &mut areas, means, canonical, counts, fit);
         let Fitted { fit, corners, trials, homographies, .. } = self.fitted(number)?;
         let (score, phase) = (self.fit[ffi::FIT_LEN], phase::phase(&self.canonical, frame));
-        Ok(Rectified { fit, score, phase, corners, trials, homographies })
+        Ok(Rectified { fit, score, phase, corners, trials, homographies, beyond: self.count(ffi::BEYOND) })
     }
 
     /// The fit of a capture alone; `canonical` is as it was.
     pub fn fit_geometry(&mut self, capture: &[u8]) -> Result<Fitted, Refusal> {
         let (w, h, frame) = (self.w, self.h, self.frame);
         let (mut areas, means, _, counts, fit) = self.lend();
-        let number = ffi::fit_geometry(capture, w, h, frame, &mut areas, means, counts, fit);
+        let number = ffi::fit_geometry(capture, w, h, frame, &mut areas, means, &mut counts[..ffi::FITTED_LEN], fit);
         self.fitted(number)
     }
 
     /// Lays a capture flat under a known fit, as that of another capture by the same camera from the same place. On acceptance
-    /// the card is in `canonical`. Nothing is looked for: what the last look found stays to be read.
-    pub fn warp_with(&mut self, capture: &[u8], fit: &Fit) -> Result<(), Refusal> {
-        Refusal::check(ffi::warp_with(capture, self.w, self.h, self.frame, fit.numbers(), &mut self.canonical))
+    /// the card is in `canonical`, and the answer is how many of its pixels lie beyond the picture's edge, as `Rectified::beyond`.
+    /// Nothing is looked for: what the last look found stays to be read.
+    pub fn warp_with(&mut self, capture: &[u8], fit: &Fit) -> Result<usize, Refusal> {
+        let (w, h, frame, mut beyond) = (self.w, self.h, self.frame, [0; ffi::WARPED_LEN]);
+        Refusal::check(ffi::warp_with(capture, w, h, frame, fit.numbers(), &mut self.canonical, &mut beyond))?;
+        Ok(beyond[0] as usize)
     }
 
     /// Lays a capture flat under the fit that a book's record keeps, as `warp_with`. Refused by 16 where that fit was not scored.
-    pub fn warp_record(&mut self, capture: &[u8], record: &Record) -> Result<(), Refusal> {
-        let (w, h, frame) = (self.w, self.h, self.frame);
-        Refusal::check(ffi::warp_record(capture, w, h, frame, record.grade, &record.numbers, &mut self.canonical))
+    pub fn warp_record(&mut self, capture: &[u8], record: &Record) -> Result<usize, Refusal> {
+        let (w, h, frame, mut beyond) = (self.w, self.h, self.frame, [0; ffi::WARPED_LEN]);
+        let (grade, numbers) = (record.grade, &record.numbers);
+        Refusal::check(ffi::warp_record(capture, w, h, frame, grade, numbers, &mut self.canonical, &mut beyond))?;
+        Ok(beyond[0] as usize)
     }
 
     /// The patches of a mask of the capture's sides, one byte a pixel, any nonzero one dark: in `patches`, and there are no

@@ -194,7 +194,7 @@ fn a_card_by_a_kept_fit() {
     let read = Book::read(&book.to_bytes().unwrap()).unwrap().records[0];
     assert_eq!((read.panel, read.camera, read.grade), (4, 2, 0));
     assert_eq!(read.fit().numbers(), rectified.fit.numbers());
-    kept.warp_record(&card(frame), &read).unwrap();
+    assert_eq!(kept.warp_record(&card(frame), &read), Ok(rectified.beyond));
     assert_eq!(kept.canonical(), found.canonical());
 
     // Under any other grade it lays nothing, and what is wrong with the capture goes first.

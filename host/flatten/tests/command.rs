@@ -39,7 +39,7 @@ fn files_and_the_report() {
     );
     assert!(json.starts_with(head), "{json}");
     assert!(json.contains(", \"phase\": 0.0, \"doubtful\": false, \"patches\": "), "{json}");
-    assert!(json.ends_with("\"trials\": 78, \"homographies\": 78}\n"), "{json}");
+    assert!(json.ends_with("\"trials\": 78, \"homographies\": 78, \"beyond\": 0}\n"), "{json}");
     assert_eq!(json.matches("\"place\": ").count(), 4);
     let drawn = flatten::p6::read(&mut &folder.get("overlay.ppm")[..]).unwrap();
     assert_eq!((drawn.w, drawn.h), (192, 192));
@@ -61,7 +61,8 @@ fn a_refusal_writes_no_card() {
         folder.text("report.json").split_once("\"file\": ").unwrap().1,
         "null, \"sides\": [64, 64], \"frame\": [192, 192, 1, 48], \"refusal\": 7, \"score\": null, \"phase\": null, \
          \"doubtful\": null, \"patches\": 0, \"waited\": 0, \"candidates\": [], \"corners\": null, \"matrix\": null, \"k\": null, \
-         \"cx\": null, \"cy\": null, \"norm\": null, \"grade\": null, \"trials\": null, \"homographies\": null}\n"
+         \"cx\": null, \"cy\": null, \"norm\": null, \"grade\": null, \"trials\": null, \"homographies\": null, \
+         \"beyond\": null}\n"
     );
 }
 
@@ -95,7 +96,7 @@ fn too_few_cells_are_refused() {
     let json = folder.text("r");
     assert!(json.contains("\"refusal\": 16, \"score\": null, \"phase\": null, \"doubtful\": null, \"patches\": "), "{json}");
     assert!(json.contains("\"corners\": null, \"matrix\": null, \"k\": null, "), "{json}");
-    assert!(json.ends_with("\"grade\": {\"too_few\": true}, \"trials\": 78, \"homographies\": 78}\n"), "{json}");
+    assert!(json.ends_with("\"grade\": {\"too_few\": true}, \"trials\": 78, \"homographies\": 78, \"beyond\": null}\n"), "{json}");
     assert_eq!(folder.text("p").lines().count(), 4);
     assert_ne!(folder.get("o"), folder.get("in.ppm"));
 }

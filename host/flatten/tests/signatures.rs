@@ -229,6 +229,21 @@ fn header_and_ffi_have_the_exported_signatures() {
     assert_eq!(differences(&f.rattle, &f.header, &f.ffi), Vec::<String>::new());
 }
 
+/// Each constant of ffi has its number in an enum of the header.
+#[test]
+fn constants_are_the_headers() {
+    let f = files();
+    let (header, ffi) = (plain(&f.header), plain(&f.ffi));
+    let constants: Vec<_> = ffi.split("pub const ").skip(1).map(|c| c.split_once(';').expect("a constant ends").0).collect();
+    assert!(constants.iter().any(|c| c.starts_with("BEYOND: ")), "{constants:?}");
+    for constant in constants {
+        // the four places have a name each there
+        let name = word(constant).replace("PLACES", "PLACE_TL");
+        let entry = format!("TABLET_{name} = {}", constant.rsplit(' ').next().unwrap());
+        assert!(header.split([',', '{', '}']).any(|e| e.trim() == entry), "{entry}");
+    }
+}
+
 /// `text` with the first `old` after `place` made `new`.
 fn edited(text: &str, place: &str, old: &str, new: &str) -> String {
     let at = text.find(place).unwrap_or_else(|| panic!("no {place}"));
@@ -250,6 +265,7 @@ fn an_exchange_in_any_of_the_three_is_seen() {
         ("fn tablet_checkerboard(", "w: usize, h: usize", "h: usize, w: usize"),
         ("fn tablet_candidate_page(", "page: &mut [u8]", "page: &[u8]"),
         ("fn tablet_read_book(", "heads: &mut [u32]", "heads: &mut [u64]"),
+        ("fn tablet_warp_record(", "counts: &mut [u64]", "counts: &mut [u32]"),
     ] {
         assert!(seen(&edited(&f.rattle, place, old, new), &f.header, &f.ffi), "{place} of the library");
     }
@@ -262,6 +278,7 @@ fn an_exchange_in_any_of_the_three_is_seen() {
         ("tablet_checkerboard(", "size_t w, size_t h", "size_t h, size_t w"),
         ("tablet_candidate_page(", "size_t candidates_len, size_t count", "size_t count, size_t candidates_len"),
         ("tablet_write_book(", "const uint32_t *heads", "uint32_t *heads"),
+        ("tablet_warp_with(", "uint64_t *counts", "const uint64_t *counts"),
     ] {
         assert!(seen(&f.rattle, &edited(&f.header, place, old, new), &f.ffi), "{place} of the header");
     }
@@ -272,6 +289,7 @@ fn an_exchange_in_any_of_the_three_is_seen() {
         ("c::tablet_grid(", "f.width, f.height", "f.height, f.width"),
         ("c::tablet_luma(", "r, g, b", "b, g, r"),
         ("c::tablet_warp_with(", "canonical.as_mut_ptr(), canonical.len()", "canonical.as_mut_ptr(), fit.len()"),
+        ("c::tablet_warp_record(", "counts.as_mut_ptr(), counts.len()", "counts.as_mut_ptr(), numbers.len()"),
         ("c::tablet_checkerboard(", "w, h", "h, w"),
         ("c::tablet_candidate_page(", "candidates.len(), count", "count, candidates.len()"),
         ("c::tablet_write_book(", "numbers.len(), count", "count, numbers.len()"),

@@ -79,12 +79,11 @@ fn fit_and_warp_apart() {
 
     // The same numbers, kept as numbers.
     let fit = Fit::new(fitted.fit.numbers().try_into().unwrap());
-    apart.warp_with(&card(), &fit).unwrap();
+    assert_eq!(apart.warp_with(&card(), &fit), Ok(rectified.beyond));
     assert_eq!(apart.canonical(), whole.canonical());
     assert_eq!(apart.candidates().len(), 4);
 
-    let number = |r: Result<(), Refusal>| r.map_err(Refusal::number);
-    assert_eq!(number(apart.warp_with(&[0; 10], &fit)), Err(2));
+    assert_eq!(apart.warp_with(&[0; 10], &fit).map_err(Refusal::number), Err(2));
     assert_eq!(apart.fit_geometry(&vec![255; 3 * 192 * 192]).unwrap_err().number(), 7);
     assert!(apart.looked() && apart.candidates().len() == 0);
     assert_eq!(apart.canonical(), whole.canonical());

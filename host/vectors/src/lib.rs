@@ -40,6 +40,17 @@ pub fn bits(x: f64) -> u64 {
     }
 }
 
+/// x and y at least 0, x below w, y below h, and a NaN is not inside.
+pub fn inside([x, y]: [f64; 2], w: usize, h: usize) -> bool {
+    x >= 0.0 && y >= 0.0 && x < w as f64 && y < h as f64
+}
+
+/// How many pixels of a card of these sides a map puts where a picture of w by h has none.
+pub fn beyond(map: impl Fn([f64; 2]) -> [f64; 2], [width, height]: [usize; 2], [w, h]: [usize; 2]) -> usize {
+    let position = |i: usize| map([(i % width) as f64 + 0.5, (i / width) as f64 + 0.5]);
+    (0..width * height).filter(|&i| !inside(position(i), w, h)).count()
+}
+
 /// How many patches there are, and the place in their list of each candidate: both stand in one order, so each is looked for after the last.
 pub fn places(img: &RgbImage, spec: &FrameSpec, cands: &[Candidate]) -> (usize, Vec<usize>) {
     let (w, h) = (img.w, img.h);

@@ -87,7 +87,8 @@ returns-2 c =
     rectify-reported _ _ (lent (areas (a .luma .now) (a .integral .now) (a .mask .now) (a .seen .now) (a .waiting .now) (a .patches .now) (a
     .candidates .now) (a .blob-index .now)) (a .means .now) (a .canonical .now)) _ _ _ (sym (b .before .before .before .before .before .before .before
     .before .before .before .before .refused .ensures) ∙ b .before .before .before .before .before .before .before .before .before .before .if1 .left)
-    (b .fit-picture .ensures) _ _ _ (c .before .before .before .before .before .scored .ensures) (c .before .before .before .lay .ensures) (c .answer .ensures)
+    (b .fit-picture .ensures) _ _ _ _ (c .before .before .before .before .before .scored .ensures) (c .before .before .before .lay .ensures .1) (c .answer .ensures)
+    (c .before .before .before .lay .ensures .0)
 
 pub rectify-spec : {M : Type 1} → statement M
 rectify-spec =

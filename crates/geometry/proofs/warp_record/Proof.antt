@@ -54,13 +54,13 @@ same-length c = search needs
 returns-5 : tie.Need-returns-5
 unfolding recordTests warpTests canonicalWrong
 returns-5 c =
-    record-accepted (image _ _ _) _ _ _ _ _
+    record-accepted (image _ _ _) _ _ _ _ _ _
     (lowest-next 1 _ _ (cc)
     ∙ lowest-next 2 _ _ (cc)
     ∙ lowest-next 4 _ _ (cc)
     ∙ lowest-next 16 _ _ (ap not (eq-eqb _ 0 (c .before .before .before .before .before .if4 .left)))
     ∙ lowest-none)
-    (c .before .before .before .before .fit .ensures) (c .before .before .warp .ensures)
+    (c .before .before .before .before .fit .ensures) (c .before .before .warp .ensures .0) (c .before .before .warp .ensures .1)
 
 pub warp-record-spec : {M : Type 1} → statement M
 warp-record-spec =

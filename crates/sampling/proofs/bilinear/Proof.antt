@@ -1,4 +1,4 @@
--- `sampling::bilinear` meets its contract: refused by 2, or the reading. Assumes nothing.
+-- `sampling::bilinear` meets its contract: refused by 2, or the reading and whether it is inside. Assumes nothing.
 use mathlib.Core.Path.{ap, _∙_}
 use borrow.Author.Needs.{needs}
 use Rattle.frame.specs.Refusals.{captureTests}
@@ -16,12 +16,12 @@ returns : tie.Need-returns
 unfolding captureTests
 returns c = colour-refused _ _ 1 (lowest-first 2 _ _ (cc))
 
-reading-requires : tie.Need-reading-requires
-reading-requires c κs = capture-held _ (cc)
+sample-requires : tie.Need-sample-requires
+sample-requires c κs = capture-held _ (cc)
 
 returns-2 : tie.Need-returns-2
 unfolding captureTests
-returns-2 c = ap Is (c .reading .ensures) ∙ colour-accepted _ _ (lowest-next 2 _ _ (cc) ∙ lowest-none)
+returns-2 c = ap Is (c .sample .ensures) ∙ colour-accepted _ _ (lowest-next 2 _ _ (cc) ∙ lowest-none)
 
 pub bilinear-spec : {M : Type 1} → statement M
-bilinear-spec = tie.close (tie.spec capture-wrong-requires returns reading-requires returns-2)
+bilinear-spec = tie.close (tie.spec capture-wrong-requires returns sample-requires returns-2)

@@ -117,8 +117,12 @@ fn phases(c: &Case, runs: usize) {
         || done(ffi::grid_score(&c.data, w, h, c.frame, &fit_numbers, &mut m.means, &mut grade, &mut score)),
         || done(g::grid_score(&img, &f, &fit)),
     );
-    let warp =
-        both(runs, || done(ffi::warp_with(&c.data, w, h, c.frame, &fit_numbers, &mut m.canonical)), || done(g::warp_with(&img, &f, &fit)));
+    let mut beyond = [0; ffi::WARPED_LEN];
+    let warp = both(
+        runs,
+        || done(ffi::warp_with(&c.data, w, h, c.frame, &fit_numbers, &mut m.canonical, &mut beyond)),
+        || done(g::warp_with(&img, &f, &fit)),
+    );
     let anew = both(runs, || done(rectify(c, &mut Memory::new(w, h, c.frame))), || done(g::rectify(&img, &f)));
 
     head("phase");

@@ -18,12 +18,13 @@
 //!   candidates COUNT                   then a line each:
 //!   X Y SCORE SIZE PLACE
 //!   corners TL TR BR BL                places in the patch list; 7 to 10 end the block before this line. After 16 this and what
-//!                                      follows is fit_geometry's, and there is no last line
+//!                                      follows is fit_geometry's, and the last two lines are not there
 //!   matrix M0 M1 M2 M3 M4 M5 M6 M7 M8
 //!   lens K CX CY NORM
 //!   grade scored SCORE                 or `grade outside CELL`, or `grade few`
 //!   trials 78 HOMOGRAPHIES
 //!   canonical SUM
+//!   beyond COUNT                       canonical pixels whose position is not inside the picture
 //! Numbers are decimal; a float is its 64 bits as sixteen hexadecimal digits, lower case, every NaN as 7ff8000000000000. A SUM
 //! begins as 0 and becomes (SUM · 65599 + number + 1) mod 4294967291 with each byte or number.
 
@@ -66,7 +67,7 @@ fn answer(n: usize, c: &Case) -> String {
         };
         let _ = writeln!(o, "trials 78 {}", flat.homographies);
         if number == 0 {
-            let _ = writeln!(o, "canonical {}", sum(flat.canonical.iter().map(|&b| b as u64)));
+            let _ = writeln!(o, "canonical {}\nbeyond {}", sum(flat.canonical.iter().map(|&b| b as u64)), flat.beyond);
         }
     }
     o

@@ -17,7 +17,7 @@
 use lpcorepub::frame::FrameSpec;
 use lpcorepub::geometry::{
     adaptive_black_mask, detect_fiducials, fiducial_candidates, fit_for, fit_geometry, grid_score, label_blobs, luma_plane, marker_layout,
-    GeometryFit, Homography, Radial,
+    GeometryFit, Homography, Radial, TAPS,
 };
 use lpcorepub::image::RgbImage;
 use vectors::pictures::{card, cells_outside, frame, frame_held, frame_words, noise, outside, photograph, put_fit, sampled, taps_outside};
@@ -121,6 +121,38 @@ fn name_cells(v: &mut Vectors, picture: &RgbImage) {
     name(&wide, affine([1.0, 0.6, 0.0], [f64::NAN, 1.0, 0.0]), [9, 3], &[[9, 6]]);
 }
 
+fn before(x: f64) -> f64 {
+    f64::from_bits(x.to_bits() - 1)
+}
+
+// A NaN in one coordinate beside each edge of the other, which the last taps just do not cross, and just do; and in both.
+fn nan_beside_edges(v: &mut Vectors, picture: &RgbImage, f: &FrameSpec) {
+    const NAN: [f64; 3] = [0.0, 0.0, f64::NAN];
+    let mut ask = |x: [f64; 3], y: [f64; 3], first: Option<[usize; 2]>| {
+        let radial = Radial::new(picture.w, picture.h, 0.0);
+        let fit = GeometryFit { h: Homography::from_mat([x, y, [0.0, 0.0, 1.0]]), radial };
+        assert_eq!(cells_outside(picture, f, &fit).first(), first.as_ref());
+        ask_grid_score(v, picture, f, &fit, sampled(f));
+    };
+    // slope and shift of a coordinate that falls or rises to an end at the last taps, and whether it is outside there
+    let last = f.cell_origin(9, 9).0 as f64 + TAPS[2] * f.cell as f64;
+    let ends = |side: f64| {
+        let each = [(-1.0, 0.0, false), (-1.0, before(last) - last, true), (1.0, before(side), false), (1.0, side, true)];
+        each.map(|(slope, end, crossed)| {
+            let shift = end - slope * last;
+            assert_eq!(slope * last + shift, end);
+            (slope, shift, crossed)
+        })
+    };
+    for (slope, shift, crossed) in ends(picture.h as f64) {
+        ask(NAN, [0.0, slope, shift], crossed.then_some([0, 9]));
+    }
+    for (slope, shift, crossed) in ends(picture.w as f64) {
+        ask([slope, 0.0, shift], NAN, crossed.then_some([9, 0]));
+    }
+    ask(NAN, NAN, None);
+}
+
 fn grid_vectors() -> Vectors {
     let mut v = Vectors::default();
     let mut rng = Random(8);
@@ -184,6 +216,7 @@ fn grid_vectors() -> Vectors {
     ask_grid_score(&mut v, &short, &sixteen, &identity, 0);
     let empty = RgbImage { w: 0, h: 40, data: vec![] };
     ask_grid_score(&mut v, &empty, &sixteen, &identity, 0);
+    nan_beside_edges(&mut v, &picture, &sixteen);
     v
 }
 

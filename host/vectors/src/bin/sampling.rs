@@ -1,20 +1,22 @@
 // Vectors for the program crate test_sampling: places in a small picture, and the original's `bilinear` there; pixels, and
-// their luma in the original's `luma_plane`.
+// their luma in the original's `luma_plane`. Which places are inside the picture is said by `vectors::inside`.
 // In host/vectors: `cargo run --release --offline --bin sampling` writes crates/test_sampling/stdin and stdout again.
 //
-// stdin is the 60 bytes of a picture of 5 by 4, four bytes of padding, then 300 places, two 64-bit words each, lowest
+// stdin is the 60 bytes of a picture of 5 by 4, four bytes of padding, then 421 places, two 64-bit words each, lowest
 // byte first: the patterns of x and y; and then pixels, three bytes each. stdout begins with what the program asks by
 // itself: requirement 15.3, 0 and 255 side by side at (1.0, 0.5), and four captures that are refused by 2. Then a line for
-// each place, and one for each pixel, the eight hexadecimal digits of its luma's pattern.
+// each place, its colour as six hexadecimal digits, a blank, and 1 where it is inside the picture, else 0; and one for each
+// pixel, the eight hexadecimal digits of its luma's pattern.
 use lpcore::geometry::bilinear;
 use lpcore::image::RgbImage;
-use vectors::Random;
+use vectors::{inside, Random};
 
 const W: usize = 5;
 const H: usize = 4;
 
-fn line(c: [u8; 3]) -> String {
-    format!("{:02x}{:02x}{:02x}\n", c[0], c[1], c[2])
+fn line(img: &RgbImage, x: f64, y: f64) -> String {
+    let [r, g, b] = bilinear(img, x, y);
+    format!("{r:02x}{g:02x}{b:02x} {}\n", u8::from(inside([x, y], img.w, img.h)))
 }
 
 fn next(x: f64) -> f64 {
@@ -77,8 +79,17 @@ fn places(random: &mut Random) -> Vec<(f64, f64)> {
     while list.len() < 300 {
         list.push((random.between(-1.0, 6.0), random.between(-1.0, 5.0)));
     }
-    assert_eq!(list.len(), 300);
+    for x in ends(W) {
+        list.extend(ends(H).map(|y| (x, y)));
+    }
+    assert_eq!(list.len(), 421);
     list
+}
+
+/// The ends of a side, the floats on either side of each, what lies in no side, and a place within.
+fn ends(side: usize) -> [f64; 11] {
+    let s = side as f64;
+    [f64::NAN, f64::INFINITY, f64::NEG_INFINITY, -5e-324, -0.0, 0.0, 5e-324, before(s), s, next(s), 1.75]
 }
 
 /// The least, the middle and the greatest bytes in each place, and 200 pixels at random.
@@ -104,12 +115,12 @@ fn main() {
 
     let mut input = img.data.clone();
     input.resize(64, 0);
-    let mut output = line(bilinear(&two, 1.0, 0.5));
+    let mut output = line(&two, 1.0, 0.5);
     output += &"refused 2\n".repeat(4);
     for (x, y) in places(&mut random) {
         input.extend(x.to_bits().to_le_bytes());
         input.extend(y.to_bits().to_le_bytes());
-        output += &line(bilinear(&img, x, y));
+        output += &line(&img, x, y);
     }
     let pixels = pixels(&mut random);
     let row = lpcorepub::image::RgbImage { w: pixels.len(), h: 1, data: pixels.concat() };

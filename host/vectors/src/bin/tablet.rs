@@ -7,7 +7,8 @@
 // sixteenth word of eight, of the candidate page, the book of fits and the checkerboard all. The number of waiting pixels
 // is not the original's, and left out. The smallest lengths are those of docs/REQUIREMENTS.md, 3.1. The original has no
 // candidate page: its text is made here, from the original's candidates. Nor has it a book of fits, whose bytes are made
-// here by to_le_bytes, or a checkerboard, which is a formula here.
+// here by to_le_bytes, or a checkerboard, which is a formula here. Pixels beyond the picture's edge are counted here, by
+// its `map` and `vectors::inside`.
 use lpcorepub::frame::FrameSpec;
 use lpcorepub::geometry::{
     adaptive_black_mask, bilinear, detect_fiducials, fiducial_candidates, fit_for, fit_geometry, grid_score, label_blobs, luma_plane,
@@ -17,7 +18,7 @@ use lpcorepub::geometry::{
 use lpcorepub::image::RgbImage;
 use vectors::pictures::{card, frame, integral_of, outside, photograph, put_fit, sampled};
 use vectors::stages::{searched, Points};
-use vectors::{Random, Vectors};
+use vectors::{beyond, inside, Random, Vectors};
 
 const W: usize = 128;
 const H: usize = 112;
@@ -186,8 +187,13 @@ fn boards(v: &mut Vectors) {
 
 // ---- the calls
 
-// Number, counts, fit with its score: the same for rectify and fit_geometry.
-fn fitted(v: &mut Vectors, img: &RgbImage, f: &FrameSpec, l: &Look) {
+// How many pixels of the card are read from beyond the picture's edge.
+fn pixels_beyond(img: &RgbImage, f: &FrameSpec, fit: &GeometryFit) -> usize {
+    beyond(|p| fit.map(p), [f.width, f.height], [img.w, img.h])
+}
+
+// Number, counts, fit with its score: the same for rectify and fit_geometry, but that rectify has one count more.
+fn fitted(v: &mut Vectors, img: &RgbImage, f: &FrameSpec, l: &Look, rectified: bool) {
     let points = detect_fiducials(img, f).unwrap();
     let fit = fit_geometry(img, f).unwrap();
     let s = searched(img, f, &points);
@@ -196,6 +202,9 @@ fn fitted(v: &mut Vectors, img: &RgbImage, f: &FrameSpec, l: &Look) {
     corners(v, l, &points);
     words(v, &[s.tried as usize, s.found.iter().sum::<u64>() as usize]);
     graded(v, img, f, &fit);
+    if rectified {
+        words(v, &[pixels_beyond(img, f, &fit)]);
+    }
     put_fit(v, &fit);
     v.float(grid_score(img, f, &fit));
     looked(v, l);
@@ -204,9 +213,9 @@ fn fitted(v: &mut Vectors, img: &RgbImage, f: &FrameSpec, l: &Look) {
 fn pictures(v: &mut Vectors, img: &RgbImage, f: &FrameSpec) {
     let l = look(img, f);
     let points = detect_fiducials(img, f).unwrap();
-    fitted(v, img, f, &l);
+    fitted(v, img, f, &l, true);
     bytes(v, &rectify(img, f).unwrap().data);
-    fitted(v, img, f, &l);
+    fitted(v, img, f, &l, false);
 
     v.word(0);
     counted(v, &l);
@@ -234,6 +243,25 @@ fn scored(v: &mut Vectors, img: &RgbImage, f: &FrameSpec, fit: &GeometryFit) {
     v.float(grid_score(img, f, fit));
 }
 
+// Number, count and card.
+fn warped(v: &mut Vectors, img: &RgbImage, f: &FrameSpec, fit: &GeometryFit) {
+    words(v, &[0, pixels_beyond(img, f, fit)]);
+    bytes(v, &warp_with(img, f, fit).data);
+}
+
+// Under the fit, and under NaNs: a black card, of which every pixel counts. Then under a record with that fit, and under one that
+// was not scored, which leaves what was there.
+fn warps(v: &mut Vectors, img: &RgbImage, f: &FrameSpec, fit: &GeometryFit) {
+    const NAN: f64 = f64::NAN;
+    warped(v, img, f, fit);
+    let none = GeometryFit { h: Homography::from_mat([[NAN; 3]; 3]), radial: Radial { k: NAN, cx: NAN, cy: NAN, norm: NAN } };
+    assert!(pixels_beyond(img, f, &none) == f.width * f.height && warp_with(img, f, &none).data.iter().all(|b| *b == 0));
+    warped(v, img, f, &none);
+    warped(v, img, f, fit);
+    words(v, &[16, 9]);
+    bytes(v, &vec![5; 3 * f.width * f.height]);
+}
+
 fn fits(v: &mut Vectors, img: &RgbImage, f: &FrameSpec, points: &Points) -> GeometryFit {
     let fit = fit_for(img, f, points, 0.015).unwrap();
     v.word(0);
@@ -244,17 +272,11 @@ fn fits(v: &mut Vectors, img: &RgbImage, f: &FrameSpec, points: &Points) -> Geom
     let moved = GeometryFit { h: Homography::from_mat(m), radial: fit.radial };
     assert!(outside(img, f, &moved).is_some_and(|cell| cell > 0));
     scored(v, img, f, &moved);
-    let laid = warp_with(img, f, &fit).data;
+    warps(v, img, f, &fit);
     v.word(0);
-    bytes(v, &laid);
-    // Under a record with that fit, and under one that was not scored, which leaves what was there.
-    v.word(0);
-    bytes(v, &laid);
-    v.word(16);
-    bytes(v, &vec![5; laid.len()]);
-    v.word(0);
-    let [r, g, b] = bilinear(img, 40.25, 71.5).map(u64::from);
-    v.word(r + (g << 8) + (b << 16));
+    let [x, y] = [40.25, 71.5];
+    let [r, g, b] = bilinear(img, x, y).map(u64::from);
+    v.word(r + (g << 8) + (b << 16) + (u64::from(inside([x, y], img.w, img.h)) << 24));
     v.word(luma_plane(&RgbImage { w: 1, h: 1, data: vec![200, 31, 7] })[0].to_bits() as u64);
     fit
 }

@@ -4,12 +4,13 @@
 //
 // stdin has a call after the other: 22 words of 64 bits, lowest byte first, and then the capture. The words are w, h, the
 // capture's bytes, the frame's width, height, cell and margin, the grade, the canonical image's bytes, and the thirteen
-// patterns. stdout has a line for each: `accepted` or `refused N`, a blank, and all bytes of the canonical image in
-// hexadecimal. Before the call its byte i is i % 251, and so it is after a refusal.
+// patterns. stdout has a line for each: `accepted`, a blank and how many canonical pixels have a position that is not inside
+// the picture, by the original's `map`, or `refused N`; a blank, and all bytes of the canonical image in hexadecimal. Before
+// the call its byte i is i % 251, and so it is after a refusal.
 use lpcore::frame::FrameSpec;
 use lpcore::geometry::{warp_with, GeometryFit, Homography, Radial};
 use lpcore::image::RgbImage;
-use vectors::Random;
+use vectors::{beyond, Random};
 
 #[derive(Clone)]
 struct Call {
@@ -59,11 +60,17 @@ impl Call {
         words.flat_map(u64::to_le_bytes).chain(self.capture.iter().copied()).collect()
     }
 
+    /// How many pixels of the card are read from beyond the picture's edge.
+    fn beyond(&self) -> usize {
+        let f = self.frame;
+        beyond(|p| fit(self.numbers).map(p), [f.width, f.height], [self.w, self.h])
+    }
+
     fn output(&self) -> String {
         let (said, card) = match self.number() {
             0 => {
                 let img = RgbImage { w: self.w, h: self.h, data: self.capture.clone() };
-                ("accepted".into(), warp_with(&img, &self.frame, &fit(self.numbers)).data)
+                (format!("accepted {}", self.beyond()), warp_with(&img, &self.frame, &fit(self.numbers)).data)
             }
             n => (format!("refused {n}"), (0..self.room).map(|i| (i % 251) as u8).collect()),
         };
@@ -133,6 +140,16 @@ fn calls(random: &mut Random) -> Vec<Call> {
     list
 }
 
+/// How many cards are laid that lie wholly inside the picture, partly, and not at all.
+fn cards(list: &[Call]) -> [usize; 3] {
+    let mut count = [0; 3];
+    for c in list.iter().filter(|c| c.number() == 0) {
+        let (n, all) = (c.beyond(), c.frame.width * c.frame.height);
+        count[usize::from(n > 0) + usize::from(n == all)] += 1;
+    }
+    count
+}
+
 fn main() {
     let list = calls(&mut Random(5));
     let input: Vec<u8> = list.iter().flat_map(Call::input).collect();
@@ -140,5 +157,8 @@ fn main() {
     for number in [0, 1, 2, 4, 16] {
         println!("{}: {} calls", number, list.iter().filter(|c| c.number() == number).count());
     }
+    let cards = cards(&list);
+    println!("cards inside, partly inside and outside: {cards:?}");
+    assert!(!cards.contains(&0));
     vectors::write("test_warp_record", &input, &output);
 }

@@ -1,5 +1,5 @@
 -- `fit::internal::grade` meets its contract. Assumes nothing.
-use Rattle.fit.proofs.Walks.{walkOf, tap-in, leaves, grade-out, grade-in, Sums, fisher-filled, filled-put, sum-put, cols-most, tap-outside-is}
+use Rattle.fit.proofs.Walks.{walkOf, tap-in, leaves, grade-out, grade-in, Sums, fisher-filled, filled-put, sum-put, cols-most, tap-outside-is, sample-inside}
 use Rattle.fit.proofs.Walks.{tap-is, cell-mean-is, cell-variance-is, mean-in, nine}
 use Rattle.fit.specs.declared.Grade.the-variants.{Score}
 use Rattle.fit.specs.Contracts.{sampledCells}
@@ -92,23 +92,25 @@ taps-holds c = (c .before .cols .inv .0, turns-begin _ _, filled-begin _ _, sear
 tap-place-requires : tie.Need-tap-place-requires Inv-taps μ-taps Inv-cols μ-cols Inv-rows μ-rows
 tap-place-requires c κs = search needs
 
-tap-outside-requires :
-    tie.Need-tap-outside-requires Inv-taps μ-taps Inv-cols μ-cols Inv-rows μ-rows
-tap-outside-requires c κs = search needs
+sample-requires : tie.Need-sample-requires Inv-taps μ-taps Inv-cols μ-cols Inv-rows μ-rows
+sample-requires c κs = search needs
+
+tap-outside-requires : tie.Need-tap-outside-requires Inv-taps μ-taps Inv-cols μ-cols Inv-rows μ-rows
+tap-outside-requires c κs = (search needs, search needs, sample-inside (image _ _ _) _ (c .sample .ensures))
 
 -- the number of a tap's cell is small enough
 cell-number : (c : tie.Then1 Inv-taps μ-taps Inv-cols μ-cols Inv-rows μ-rows) →
-    3 * c .before .before .before .before .before .before .before .before .rows .y
-    * c .before .before .before .before .before .before .before .before .before .before .before .cols2 .result ≤ 4095 * 4096
+    3 * c .before .before .before .before .before .before .before .before .before .rows .y
+    * c .before .before .before .before .before .before .before .before .before .before .before .before .cols2 .result ≤ 4095 * 4096
 cell-number c =
-    product-le (3 * c .before .before .before .before .before .before .before .before .rows .y)
-    (c .before .before .before .before .before .before .before .before .before .before .before .cols2 .result) 4095 4096 (omega arith)
+    product-le (3 * c .before .before .before .before .before .before .before .before .before .rows .y)
+    (c .before .before .before .before .before .before .before .before .before .before .before .before .cols2 .result) 4095 4096 (omega arith)
     (omega (
       arith,
-      c .before .before .before .before .before .before .before .before .before .before .before .cols2 .ensures,
+      c .before .before .before .before .before .before .before .before .before .before .before .before .cols2 .ensures,
       cols-most
-          (c .before .before .before .before .before .before .before .before .before .before .before .before .before .before .args .frame)
-          (c .before .before .before .before .before .before .before .before .before .before .before .before .before .before .pre .1),
+          (c .before .before .before .before .before .before .before .before .before .before .before .before .before .before .before .args .frame)
+          (c .before .before .before .before .before .before .before .before .before .before .before .before .before .before .before .pre .1),
     ))
 
 mul-cell : tie.Need-mul-cell Inv-taps μ-taps Inv-cols μ-cols Inv-rows μ-rows
@@ -116,9 +118,6 @@ mul-cell c = record { fits = omega (arith, cell-number c) }
 
 add-cell : tie.Need-add-cell Inv-taps μ-taps Inv-cols μ-cols Inv-rows μ-rows
 add-cell c = record { fits = omega (arith, cell-number c) }
-
-reading-requires : tie.Need-reading-requires Inv-taps μ-taps Inv-cols μ-cols Inv-rows μ-rows
-reading-requires c κs = search needs
 
 luma-requires : tie.Need-luma-requires Inv-taps μ-taps Inv-cols μ-cols Inv-rows μ-rows
 luma-requires c κs = search needs
@@ -137,17 +136,17 @@ taps-less c = search needs
 
 taps-again : tie.Need-taps-again Inv-taps μ-taps Inv-cols μ-cols Inv-rows μ-rows
 taps-again c =
-    let a = c .before .before .before .before .before .before .before .before .before .before .before .before .before .before .before .before .args in
-    let l = c .before .before .before .before .before .before .taps in
-    let x = c .before .before .before .before .before .before .before .before .cols .x in
-    let y = c .before .before .before .before .before .before .before .before .before .before .rows .y in
+    let a = c .before .before .before .before .before .before .before .before .before .before .before .before .before .before .before .before .before .args in
+    let l = c .before .before .before .before .before .before .before .taps in
+    let x = c .before .before .before .before .before .before .before .before .before .cols .x in
+    let y = c .before .before .before .before .before .before .before .before .before .before .before .rows .y in
     let inside : tapOutside (image (a .w) (a .h) (a .capture .now)) (a .frame) (a .fit) (3 * x) (3 * y) (l .i) ≡ false =
-    sym (tap-outside-is (image (a .w) (a .h) (a .capture .now)) (a .frame) (a .fit) (3 * x) (3 * y) (l .i) (c .before .before .before
+    sym (tap-outside-is (image (a .w) (a .h) (a .capture .now)) (a .frame) (a .fit) (3 * x) (3 * y) (l .i) (c .before .before .before .before
     .before .tap-place .ensures) (c .before .before .before .tap-outside .ensures)) ∙ c .before .before .if1 .left in (
       l .inv .0,
       tap-in (image (a .w) (a .h) (a .capture .now)) (a .frame) (a .fit) y x (l .i) inside ∙ turns-step _ _ _ (l .inv .1),
       filled-step _ _ _ _ (l .inv .2) (tap-is (image (a .w) (a .h) (a .capture .now)) (a .frame) (a .fit) (3 * x) (3 * y) (l .i)
-          (c .before .before .before .before .tap-place .ensures) (c .before .reading .ensures) (c .luma .ensures)),
+          (c .before .before .before .before .before .tap-place .ensures) (c .before .before .before .before .sample .ensures) (c .luma .ensures)),
       omega arith,
     )
 
@@ -259,9 +258,9 @@ left-walk c =
     let x = w .1 .x in
     let y = l .y in
     let out : tapOutside img (a .frame) (a .fit) (3 * x) (3 * y) (w .3 .i) ≡ true =
-    sym (tap-outside-is img (a .frame) (a .fit) (3 * x) (3 * y) (w .3 .i) (w .5 .ensures) (w .6 .ensures)) ∙ w .7 .taken in
-    let cell : c .rows-test .cell ≡ 3 * y * cols (a .frame) + 3 * x = w .10 ∙ ap (λ n. 3 * y * n + 3 * x) (c .before .before .before .before .cols2 .ensures) in
-    sym (pick-yes _ _ _ (w .9)) ∙ ap Ended cell
+    sym (tap-outside-is img (a .frame) (a .fit) (3 * x) (3 * y) (w .3 .i) (w .5 .ensures) (w .7 .ensures)) ∙ w .8 .taken in
+    let cell : c .rows-test .cell ≡ 3 * y * cols (a .frame) + 3 * x = w .11 ∙ ap (λ n. 3 * y * n + 3 * x) (c .before .before .before .before .cols2 .ensures) in
+    sym (pick-yes _ _ _ (w .10)) ∙ ap Ended cell
     ∙ sym (leaves img (a .frame) (a .fit) y x (w .3 .i) (l .inv .1) (w .1 .inv .1) (w .3 .inv .1) out (omega arith) (omega arith) (omega arith)))
     (c .rows-test .came)
 
@@ -269,7 +268,7 @@ left-length : (c : tie.Left-rows Inv-taps μ-taps Inv-cols μ-cols Inv-rows μ-r
     ≡ length (c .before .before .before .before .before .before .before .args .means .now)
 left-length c =
     let l = c .before .rows in
-    ⊎-elim (λ w. ap length (w .1) ∙ l .inv .6) (λ w. ap length (w .8) ∙ w .1 .inv .6 ∙ l .inv .6) (c .rows-test .came)
+    ⊎-elim (λ w. ap length (w .1) ∙ l .inv .6) (λ w. ap length (w .9) ∙ w .1 .inv .6 ∙ l .inv .6) (c .rows-test .came)
 
 left-sums : (c : tie.Left-rows Inv-taps μ-taps Inv-cols μ-cols Inv-rows μ-rows)
     → c .rows-test .found ≡ false
@@ -287,7 +286,7 @@ left-sums c f =
       means = w .1 ∙ filled-end _ _ _ _ (l .inv .4) (sym (l .inv .3) ∙ sym (w .4));
       within = w .5 ∙ l .inv .5 ∙ ap (sumOf _) (sym (l .inv .3) ∙ sym (w .4));
     })
-    (λ w. absurd (false≢true (sym f ∙ w .9)))
+    (λ w. absurd (false≢true (sym f ∙ w .10)))
     (c .rows-test .came)
 
 same-length : tie.Need-same-length Inv-taps μ-taps Inv-cols μ-cols Inv-rows μ-rows
@@ -351,10 +350,10 @@ grade-spec =
     mul-c
     taps-holds
     tap-place-requires
+    sample-requires
     tap-outside-requires
     mul-cell
     add-cell
-    reading-requires
     luma-requires
     mul-taps
     array-write-taps

@@ -1,6 +1,6 @@
 -- `geometry::internal::pixel` meets its contract. Assumes nothing.
 use borrow.Author.Needs.{needs}
-use Rattle.geometry.specs.Warp.{reading, pixelPlace}
+use Rattle.geometry.specs.Warp.{pixelPlace}
 use Rattle.geometry.proofs.internal.pixel.Statement.{statement}
 use Rattle.geometry.proofs.internal.pixel.Tie as tie
 
@@ -13,11 +13,11 @@ center-requires-2 c κs = search needs
 map-requires : tie.Need-map-requires
 map-requires c κs = search needs
 
-reading-requires : tie.Need-reading-requires
-reading-requires c κs = search needs
+sample-requires : tie.Need-sample-requires
+sample-requires c κs = search needs
 
 returns : tie.Need-returns
-unfolding reading pixelPlace
+unfolding pixelPlace
 returns c = cc
 
 pub pixel-spec : {M : Type 1} → statement M
@@ -27,5 +27,5 @@ pixel-spec =
     center-requires
     center-requires-2
     map-requires
-    reading-requires
+    sample-requires
     returns)

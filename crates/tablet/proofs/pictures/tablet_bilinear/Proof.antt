@@ -6,11 +6,15 @@ use Rattle.tablet.specs.Slices.{written}
 use Rattle.sampling.proofs.Given.{colour-number, colour-value}
 use Rattle.sampling.specs.Answers.{colourRefusal, colourValue, colourFor}
 use Rattle.frame.proofs.Lowest.{lowest-first, lowest-next, lowest-none, lowest-past, capture-rising}
-use Rattle.frame.specs.declared.Rgb.{Rgb}
+use Rattle.sampling.specs.declared.Sample.{Sample}
 use Rattle.frame.specs.Refusals.{lowestOf, captureTests}
 use Rattle.frame.specs.Image.{image}
 use borrow.Author.Tests.{lt-ltb, le-ltb}
-use mathlib.Core.Path.{_≡_, sym, ap, _∙_}
+use Prim.Native.Nat.{ℕ}
+use mathlib.Core.Path.{_≡_, refl, sym, ap, _∙_}
+use mathlib.Core.Bool.{Bool, true, false, cond}
+use mathlib.Core.List.{[], _∷_}
+use mir.Val.{boolByte}
 use borrow.Author.Needs.{needs}
 use Rattle.tablet.proofs.pictures.tablet_bilinear.Statement.{statement}
 use Rattle.tablet.proofs.pictures.tablet_bilinear.Tie as tie
@@ -37,6 +41,9 @@ returns-2 c =
 colour-value-requires : tie.Need-colour-value-requires
 colour-value-requires c κs = search needs
 
+cast-t17 : tie.Need-cast-t17
+cast-t17 c = search needs
+
 slice-aggregate-store-bytes : tie.Need-slice-aggregate-store-bytes
 slice-aggregate-store-bytes c = search needs
 
@@ -46,18 +53,26 @@ store-bytes-requires c κs = search needs
 same-length : tie.Need-same-length
 same-length c = search needs
 
+-- 1 where the position was inside
+inside-byte : (b : Bool) → _≡_ {A = ℕ} (boolByte b) (cond b 1 0)
+inside-byte true = refl
+inside-byte false = refl
+
 returns-3 : tie.Need-returns-3
 unfolding colourTests colourFor colourNumbers
 returns-3 c =
-    let b = c .before .before .before .before .before .before in
+    let b = c .before .before .before .before .before .before .before .before in
     let a = b .before .before .before .before .before .before .args in
     let img = image (a .w) (a .h) (a .capture .now) in
     let z : lowestOf (captureTests img) ≡ 0 = sym (b .before .before .colour-number .ensures ∙ ap colourRefusal (b .before .before .before .bilinear
     .ensures) ∙ colour-number _ _) ∙ b .before .if1 .left in
-    let v = c .before .before .before .before .before .colour-value .ensures ∙ ap colourValue (b .before .before .before .bilinear .ensures) ∙
-    colour-value _ _ z in
-    accepted _ _ _ (lowest-past _ 0 _ (capture-rising img) z ∙ lowest-next 3 _ _ (le-ltb _ _ (b .if2 .left)) ∙ lowest-none) (c .before .before
-    .store-bytes .ensures ∙ ap (λ (k : Rgb). written (colourNumbers k) (a .colour .now)) v)
+    let s = c .before .before .before .before .before .before .before .colour-value in
+    let k = s .result .colour in
+    let v = s .ensures ∙ ap colourValue (b .before .before .before .bilinear .ensures) ∙ colour-value _ _ z in
+    accepted _ _ _ (lowest-past _ 0 _ (capture-rising img) z ∙ lowest-next 3 _ _ (le-ltb _ _ (b .if2 .left)) ∙ lowest-none)
+    (c .before .before .store-bytes .ensures
+    ∙ ap (λ (i : ℕ). written (k .r ∷ k .g ∷ k .b ∷ i ∷ []) (a .colour .now)) (inside-byte (s .result .inside))
+    ∙ ap (λ (y : Sample). written (colourNumbers y) (a .colour .now)) v)
 
 pub tablet-bilinear-spec : {M : Type 1} → statement M
 tablet-bilinear-spec =
@@ -68,6 +83,7 @@ tablet-bilinear-spec =
     returns
     returns-2
     colour-value-requires
+    cast-t17
     slice-aggregate-store-bytes
     store-bytes-requires
     same-length

@@ -17,8 +17,8 @@ returns c = over-short (sym (c .before .before .short .ensures .0) ∙ c .before
 rectify-requires : tie.Need-rectify-requires
 rectify-requires c κs = search needs
 
-tell-requires : tie.Need-tell-requires
-tell-requires c κs =
+tell-flat-requires : tie.Need-tell-flat-requires
+tell-flat-requires c κs =
     let b = c .before .before .before .before .before .before .before .before .before .before .before .before .before .before .before .before .before
     .before .before .before .before .before .before .before .before .before .before .before .before .before .before .before .before in
     b .before .short .ensures .1 (b .if1 .left)
@@ -70,10 +70,10 @@ same-length-10 c = c .before .before .before .before .before .before .before .be
     .1 .1 .1 .1 .1 .0
 
 same-length-11 : tie.Need-same-length-11
-same-length-11 c = c .before .before .before .before .tell .kept .1 .0
+same-length-11 c = c .before .before .before .before .tell-flat .kept .1 .0
 
 same-length-12 : tie.Need-same-length-12
-same-length-12 c = c .before .before .before .before .tell .kept .1 .1 .0
+same-length-12 c = c .before .before .before .before .tell-flat .kept .1 .1 .0
 
 returns-2 : tie.Need-returns-2
 returns-2 c =
@@ -81,10 +81,11 @@ returns-2 c =
     .before .before .before .before .before .before .before .before .before .before in
     over-done (sym (b .before .before .before .before .before .before .before .before .before .before .before .before .short .ensures .0) ∙ b .before
     .before .before .before .before .before .before .before .before .before .before .if1 .left) (record {
-      answer = b .rectify .result;
+      answer = b .rectify .result .picture;
+      beyond = b .rectify .result .beyond;
       rectification =
           b .rectify .ensures;
-      tells = c .before .before .before .before .tell .ensures;
+      tells = c .before .before .before .before .tell-flat .ensures;
     })
 
 pub tablet-rectify-spec : {M : Type 1} → statement M
@@ -95,7 +96,7 @@ tablet-rectify-spec =
     capture-first-requires
     returns
     rectify-requires
-    tell-requires
+    tell-flat-requires
     same-length
     same-length-2
     same-length-3
