@@ -41,7 +41,8 @@ fn center(n: usize) -> f64
 }
 
 // The canonical pixel in column x and row y: the reading where the fit puts its centre, and whether
-// that is inside the picture.
+// that is inside the picture. Two calls and not `sample`, so that the compiled loop of the warp
+// keeps no sample in memory: docs/BENCHMARK.md.
 fn pixel(capture: &[u8], w: usize, h: usize, fit: GeometryFit, x: usize, y: usize) -> Sample
     requires { ⌜ CaptureHeld (image w h (now capture)) × (x < 4096) × (y < 4096) ⌝ }
     ensures { λ r. ⌜ r ≡ sampleAt (image w h (now (capture .entry))) (pixelPlace fit x y) ⌝ }
@@ -51,7 +52,12 @@ fn pixel(capture: &[u8], w: usize, h: usize, fit: GeometryFit, x: usize, y: usiz
         y: center(y),
     };
     let p = fit.map(c);
-    sampling::internal::sample(capture, w, h, p)
+    let colour = sampling::internal::reading(capture, w, h, p);
+    let within = sampling::internal::inside(w, h, p.x, p.y);
+    Sample {
+        colour: colour,
+        inside: within,
+    }
 }
 
 // Row y of the canonical image; the number of its pixels whose position was not inside.

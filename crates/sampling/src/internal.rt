@@ -69,7 +69,7 @@ pub fn reading(capture: &[u8], w: usize, h: usize, p: Point) -> Rgb
 }
 
 // The position (x, y) is inside the picture; a NaN compares false.
-fn inside(w: usize, h: usize, x: f64, y: f64) -> bool
+pub fn inside(w: usize, h: usize, x: f64, y: f64) -> bool
     requires { ⌜ (w ≤ 4096) × (h ≤ 4096) ⌝ }
     ensures { λ r. ⌜ r ≡ inside w h x y ⌝ }
 {

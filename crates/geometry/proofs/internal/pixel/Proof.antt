@@ -1,5 +1,6 @@
 -- `geometry::internal::pixel` meets its contract. Assumes nothing.
 use borrow.Author.Needs.{needs}
+use Rattle.sampling.specs.Reading.{sampleAt}
 use Rattle.geometry.specs.Warp.{pixelPlace}
 use Rattle.geometry.proofs.internal.pixel.Statement.{statement}
 use Rattle.geometry.proofs.internal.pixel.Tie as tie
@@ -13,11 +14,14 @@ center-requires-2 c κs = search needs
 map-requires : tie.Need-map-requires
 map-requires c κs = search needs
 
-sample-requires : tie.Need-sample-requires
-sample-requires c κs = search needs
+reading-requires : tie.Need-reading-requires
+reading-requires c κs = search needs
+
+inside-requires : tie.Need-inside-requires
+inside-requires c κs = search needs
 
 returns : tie.Need-returns
-unfolding pixelPlace
+unfolding pixelPlace sampleAt
 returns c = cc
 
 pub pixel-spec : {M : Type 1} → statement M
@@ -27,5 +31,6 @@ pixel-spec =
     center-requires
     center-requires-2
     map-requires
-    sample-requires
+    reading-requires
+    inside-requires
     returns)
