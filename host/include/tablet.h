@@ -250,7 +250,7 @@ uint32_t tablet_distort(const double *lens, size_t lens_len, double x, double y,
 uint32_t tablet_undistort(const double *lens, size_t lens_len, double x, double y, double *point, size_t point_len);
 
 /* The colour of a capture at a position: that of the edge where it lies beyond, black where a coordinate is a NaN. 2, 3.
- * colour: TABLET_COLOUR_LEN, red, green, blue, and 1 where the position is inside the picture, else 0. */
+ * colour: TABLET_COLOUR_LEN, red, green, blue, and 1 where the position was inside the picture, else 0. */
 uint32_t tablet_bilinear(const uint8_t *capture, size_t capture_len, size_t w, size_t h, double x, double y,
                          uint8_t *colour, size_t colour_len);
 

@@ -11,20 +11,8 @@ use Rattle.frame.specs.Image.{Image}
 use Rattle.frame.specs.declared.FrameSpec.{FrameSpec}
 use Rattle.fit.specs.declared.GeometryFit.{GeometryFit}
 use Rattle.sampling.specs.Reading.{sampleAt}
-use Rattle.sampling.specs.declared.Sample.{Sample}
-use Rattle.geometry.specs.Warp.{pixelPlace, reading, insideAt, countBeyond, rowBeyond, beyond}
+use Rattle.geometry.specs.Warp.{insideAt, countBeyond, rowBeyond, beyond}
 use Rattle.geometry.specs.Beyond.{EachTells, NoneBeyond, MostBeyond, AllBeyond}
-
--- ---- what a pixel's sample tells
-
-module _ (img : Image) (fit : GeometryFit) (x y : ℕ) {s : Sample} (e : s ≡ sampleAt img (pixelPlace fit x y)) where
-  pub sample-colour : s .colour ≡ reading img fit x y
-  unfolding sampleAt reading
-  sample-colour = ap (λ (z : Sample). z .colour) e
-
-  pub sample-inside : s .inside ≡ insideAt img fit x y
-  unfolding sampleAt insideAt
-  sample-inside = ap (λ (z : Sample). z .inside) e
 
 -- ---- numbers g 0, g 1, .. added up
 

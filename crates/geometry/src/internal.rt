@@ -27,8 +27,7 @@ ghost use Rattle.frame.specs.Limits.{FrameHeld, CaptureHeld};
 ghost use Rattle.frame.specs.Refusals.{lowestOf, frameOutside};
 ghost use Rattle.candidates.specs.Areas.{pictureTests};
 ghost use Rattle.fit_geometry.specs.Contracts.{fitShort};
-ghost use Rattle.sampling.specs.Reading.{sampleAt};
-ghost use Rattle.geometry.specs.Warp.{pixelPlace, rowByte, warped, rowBeyond, beyond};
+ghost use Rattle.geometry.specs.Warp.{reading, rowByte, warped, insideAt, rowBeyond, beyond};
 ghost use Rattle.geometry.specs.Contracts.{canonicalLength, canonicalWrong};
 ghost use Rattle.geometry.specs.Rectification as spec;
 
@@ -45,7 +44,8 @@ fn center(n: usize) -> f64
 // keeps no sample in memory: docs/BENCHMARK.md.
 fn pixel(capture: &[u8], w: usize, h: usize, fit: GeometryFit, x: usize, y: usize) -> Sample
     requires { ⌜ CaptureHeld (image w h (now capture)) × (x < 4096) × (y < 4096) ⌝ }
-    ensures { λ r. ⌜ r ≡ sampleAt (image w h (now (capture .entry))) (pixelPlace fit x y) ⌝ }
+    ensures { λ r. ⌜ (r .colour ≡ reading (image w h (now (capture .entry))) fit x y) × (r .inside
+        ≡ insideAt (image w h (now (capture .entry))) fit x y) ⌝ }
 {
     let c = Point {
         x: center(x),

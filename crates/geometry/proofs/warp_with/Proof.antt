@@ -46,7 +46,9 @@ same-length c = search needs
 
 returns-4 : tie.Need-returns-4
 unfolding warpTests canonicalWrong
-returns-4 c = warping-accepted (image _ _ _) _ _ _ _ _ (lowest-next 1 _ _ (cc) ∙ lowest-next 2 _ _ (cc) ∙ lowest-next 4 _ _ (cc) ∙ lowest-none) (c .before .before .warp .ensures .0) (c .before .before .warp .ensures .1)
+returns-4 c =
+    warping-accepted (image _ _ _) _ _ _ _ _ (lowest-next 1 _ _ (cc) ∙ lowest-next 2 _ _ (cc) ∙ lowest-next 4 _ _ (cc) ∙ lowest-none) (c .before .before .warp .ensures .0)
+    (c .before .before .warp .ensures .1)
 
 pub warp-with-spec : {M : Type 1} → statement M
 warp-with-spec =

@@ -1,7 +1,6 @@
 -- `geometry::internal::pixel` meets its contract. Assumes nothing.
 use borrow.Author.Needs.{needs}
-use Rattle.sampling.specs.Reading.{sampleAt}
-use Rattle.geometry.specs.Warp.{pixelPlace}
+use Rattle.geometry.specs.Warp.{pixelPlace, reading, insideAt}
 use Rattle.geometry.proofs.internal.pixel.Statement.{statement}
 use Rattle.geometry.proofs.internal.pixel.Tie as tie
 
@@ -21,8 +20,8 @@ inside-requires : tie.Need-inside-requires
 inside-requires c κs = search needs
 
 returns : tie.Need-returns
-unfolding pixelPlace sampleAt
-returns c = cc
+unfolding pixelPlace reading insideAt
+returns c = (cc, cc)
 
 pub pixel-spec : {M : Type 1} → statement M
 pixel-spec =

@@ -10,7 +10,7 @@ use Rattle.base.proofs.Plane.{filled-begin, filled-end}
 use Rattle.base.proofs.Turns.{turns-begin, turns-step, turns-end}
 use Rattle.frame.specs.Image.{image}
 use Rattle.geometry.specs.Warp.{rowByte, insideAt, countBeyond, rowBeyond}
-use Rattle.geometry.proofs.Beyond.{sample-colour, sample-inside, count-most}
+use Rattle.geometry.proofs.Beyond.{count-most}
 use Rattle.geometry.proofs.Rows.{pixel-stored}
 use Rattle.geometry.proofs.internal.warp_row.Statement.{statement}
 use Rattle.geometry.proofs.internal.warp_row.Tie as tie
@@ -56,10 +56,7 @@ not-inside-requires c κs = search needs
 adds : (c : tie.After-not-inside Inv-loop μ-loop) → let a = c .before .before .before .before .before .before .before .args in
     let l = c .before .before .before .before .loop in
     c .not-inside .result ≡ cond (insideAt (image (a .w) (a .h) (a .capture .now)) (a .fit) (l .x) (a .y)) 0 1
-adds c =
-    let a = c .before .before .before .before .before .before .before .args in
-    c .not-inside .ensures
-    ∙ ap (λ b. cond b 0 1) (sample-inside (image (a .w) (a .h) (a .capture .now)) (a .fit) (c .before .before .before .before .loop .x) (a .y) (c .before .before .pixel .ensures))
+adds c = c .not-inside .ensures ∙ ap (λ b. cond b 0 1) (c .before .before .pixel .ensures .1)
 
 counted : (c : tie.After-not-inside Inv-loop μ-loop) → let a = c .before .before .before .before .before .before .before .args in
     let l = c .before .before .before .before .loop in
@@ -86,7 +83,7 @@ loop-again c =
     let a = c .before .before .before .before .before .before .before .args in
     let img = image (a .w) (a .h) (a .capture .now) in (
       pixel-stored img (a .fit) (a .y) (l .x) (a .row .now) (c .before .before .pixel .result .colour)
-          (sample-colour img (a .fit) (l .x) (a .y) (c .before .before .pixel .ensures)) (l .inv .0),
+          (c .before .before .pixel .ensures .0) (l .inv .0),
       omega arith,
       simp length-set (l .inv .2),
       counted c,

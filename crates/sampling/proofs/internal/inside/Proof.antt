@@ -1,5 +1,4 @@
 -- `sampling::internal::inside` meets its contract. Assumes nothing.
-use mathlib.Core.Path.{_≡_, refl, ap, _∙_}
 use mathlib.Core.Bool.{_&&_}
 use native.Mathlib.Omega.{arith}
 use lib.Ieee.{lt, le, ofBits, ofInt}
