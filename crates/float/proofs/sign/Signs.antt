@@ -9,19 +9,11 @@ use lib.IntN.{pos}
 use lib.Dec.{T, leb, eqb}
 use lib.Arith.{lt→nleb}
 use lib.Pow.{pow-pos, mod-mod-pow}
-use lib.Ieee.{Float, nan, inf, fin, binary64, odd, fits, isNan, nanBits, ofFields, ofBits, toBits, ne}
+use lib.Ieee.{Float, nan, inf, fin, binary64, odd, fits, isNan, nanBits, ofFields, ofBits, toBits}
 use lib.Ieee.Bits.{ofBits-toBits, nanBits-is, is-false}
 use lib.Ieee.Exact.{HasValue}
 use Rattle.float.specs.Floats.{absOf, signumOf}
 use Rattle.float.proofs.Patterns.{read-own}
-use Rattle.base.proofs.Floats.{is-nan, not-nan}
-
-pub isNan-true : (x : Float) → ne x x ≡ true → isNan x ≡ true
-unfolding isNan
-isNan-true x h = ap isNan (is-nan x h)
-
-pub isNan-false : (x : Float) → ne x x ≡ false → isNan x ≡ false
-isNan-false x h = is-false (isNan x) (not-nan x h)
 
 -- ---- `abs`
 odd-abs : (d : ℕ) (s : Bool) (q k l : ℕ) → absOf (odd d s q k l) ≡ odd d false q k l

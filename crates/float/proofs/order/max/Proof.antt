@@ -1,7 +1,7 @@
 -- `float::max` meets its contract. Assumes nothing.
 use Rattle.float.specs.Floats.{maxOf}
 -- `float::max` meets its contract. Assumes nothing.
-use Rattle.float.proofs.sign.Signs.{isNan-true, isNan-false}
+use Rattle.base.proofs.Floats.{isNan-true, isNan-false}
 use Rattle.float.proofs.order.max.Statement.{statement}
 use Rattle.float.proofs.order.max.Tie as tie
 
