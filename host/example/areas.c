@@ -8,7 +8,7 @@
 
 #define FRAME 192, 192, 1, 48
 
-enum { SIDE = 192, GUARD = 64 };
+enum { SIDE = 192, GUARD = 64, OUTLINE = TABLET_PATCH_LEN - 1 };
 
 static uint8_t photo[3 * SIDE * SIDE];
 
@@ -61,7 +61,31 @@ static void lumas(const struct tablet_areas *a)
     assert(tablet_luma(0, 0, 255) == 0.114f * 255.0f && tablet_luma(0, 0, 0) == 0.0f);
 }
 
-/* The mask with most patches takes every record of the areas, and with one less it is refused. */
+/* The sides of a mask's dark pixels that face a light pixel or the picture's border. */
+static uint64_t dark_sides(const uint8_t *mask)
+{
+    uint64_t sides = 0;
+    for (size_t i = 0; i < SIDE * SIDE; i++) {
+        size_t x = i % SIDE, y = i / SIDE;
+        if (mask[i] == 0) continue;
+        sides += x == 0 || mask[i - 1] == 0;
+        sides += x == SIDE - 1 || mask[i + 1] == 0;
+        sides += y == 0 || mask[i - SIDE] == 0;
+        sides += y == SIDE - 1 || mask[i + SIDE] == 0;
+    }
+    return sides;
+}
+
+/* The outlines of the patches, their records' last numbers, add up to the dark sides of the mask. */
+static void outlines(const struct tablet_areas *a, uint64_t patches)
+{
+    uint64_t sum = 0;
+    for (size_t i = 0; i < patches; i++) sum += a->patches[TABLET_PATCH_LEN * i + OUTLINE];
+    assert(sum > 0 && sum == dark_sides(a->mask));
+}
+
+/* The mask with most patches takes every record of the areas, and with one less it is refused. Each patch is a pixel with four
+ * sides. */
 static void boards(struct tablet_areas *a)
 {
     enum { MOST = SIDE * SIDE / 2 };
@@ -75,7 +99,12 @@ static void boards(struct tablet_areas *a)
                               a->patches, a->patches_len - 1, counts, TABLET_LABELLED_LEN) == 3);
     assert(tablet_label_blobs(a->mask, SIDE * SIDE, SIDE, SIDE, a->seen, a->seen_len, a->waiting, a->waiting_len,
                               a->patches, a->patches_len, counts, TABLET_LABELLED_LEN) == 0);
-    assert(counts[0] == MOST && counts[1] == 1 && a->patches[TABLET_PATCH_LEN * (MOST - 1)] == 1);
+    assert(counts[0] == MOST && counts[1] == 1);
+    for (size_t i = 0; i < MOST; i++) {
+        const uint64_t *patch = a->patches + TABLET_PATCH_LEN * i;
+        assert(patch[0] == 1 && patch[OUTLINE] == 4);
+    }
+    outlines(a, MOST);
 }
 
 int main(void)
@@ -96,6 +125,7 @@ int main(void)
     assert(a.counts[TABLET_CANDIDATES] == 4 && a.counts[TABLET_PATCHES] >= 4);
     paged(&a);
     lumas(&a);
+    outlines(&a, a.counts[TABLET_PATCHES]);
     boards(&a);
     a.counts[TABLET_BEYOND] = 9;
     assert(tablet_areas_fit(&a, SIDE, SIDE, FRAME) == 0);

@@ -40,7 +40,8 @@
  *    integral    its integral image, (w + 1) * (h + 1)
  *    mask        1 where dark, else 0, w * h
  *    seen        the same as mask
- *    patches     seven numbers a patch, in raster order of the first pixels: area, sum of x, sum of y, x0, y0, x1, y1
+ *    patches     eight numbers a patch, in raster order of the first pixels: area, sum of x, sum of y, x0, y0, x1, y1, outline;
+ *                the outline is how many sides of its pixels face a light pixel or the picture's border, those of a hole too
  *    candidates  four numbers a candidate, in patch order: centre x, centre y, score, size
  *    blob_index  for each candidate its patch's place in patches, from 0
  * and waiting and means hold nothing of use: they are free. Records past the last are as they were. After a refusal by 1 to 6,
@@ -85,7 +86,7 @@ enum {
     TABLET_GRADE_LEN = 2, /* of tablet_grid_score */
     TABLET_MARKER_NUMBERS_LEN = 3,
     TABLET_GRID_LEN = 2,
-    TABLET_PATCH_LEN = 7, /* one record of patches */
+    TABLET_PATCH_LEN = 8, /* one record of patches */
     TABLET_CANDIDATE_LEN = 4, /* one record of candidates */
     TABLET_PAGE_LINE_LEN = 37, /* one line of a candidate page: 36 columns and a line feed */
     TABLET_BOOK_HEADER_LEN = 16, /* bytes of a book before its first record */
@@ -313,7 +314,7 @@ struct tablet_areas {
     double fit[TABLET_SCORED_FIT_LEN];
 };
 
-/* How many bytes all lent areas take, by the lengths that tablet_lengths gives: 47 a pixel and the card. */
+/* How many bytes all lent areas take, by the lengths that tablet_lengths gives: 51 a pixel and the card. */
 static inline size_t tablet_areas_size(const uint64_t *lengths)
 {
     return (size_t)(8 * (lengths[TABLET_LENGTH_INTEGRAL] + lengths[TABLET_LENGTH_PATCHES]) +

@@ -12,12 +12,13 @@ use lib.Seq.{getD-set-same}
 use Rattle.base.specs.Loops.{turns}
 use Rattle.base.proofs.Turns.{turns-keep}
 use Rattle.blobs.specs.declared.Blob.{Blob}
-use Rattle.blobs.specs.Patches.{Dark, Touch, Joined, total, one, column, row, Marks, PatchOf}
+use Rattle.blobs.specs.Patches.{Dark, Touch, Joined, total, one, column, row, sides, Marks, PatchOf}
 use Rattle.blobs.specs.Patches.Joined.{here, step}
 use Rattle.blobs.specs.Stack.{Marking, marking, spread, grow, Flooding, flooding, noBlob, begun, take, floodStep, flood}
 use Rattle.blobs.specs.Ready.{at, Held, Pixel, Closed, Ready}
 use Rattle.blobs.proofs.Sums.{total-set, total-most, total-less, at-set, flags-set, summed, summed-one}
 use Rattle.blobs.proofs.Grid.{dark-inside}
+use Rattle.blobs.proofs.Sides.{sides-most}
 use Rattle.blobs.proofs.Joins.{joined-dark, closed-all, closed-back}
 use Rattle.blobs.proofs.Steps.{Waits, newest, older, Reach, reach-spread, spread-marks}
 
@@ -46,6 +47,7 @@ pub record Progress (m : List ℕ) (w a : ℕ) (s₀ : List ℕ) (f : Flooding) 
   pub area : total one (at (f .seen)) (length m) ≡ total one (at s₀) (length m) + (f .blob .area + length (f .waiting))
   pub sx : total (column w) (at (f .seen)) (length m) ≡ total (column w) (at s₀) (length m) + (f .blob .sx + summed (column w) (f .waiting))
   pub sy : total (row w) (at (f .seen)) (length m) ≡ total (row w) (at s₀) (length m) + (f .blob .sy + summed (row w) (f .waiting))
+  pub outline : total (sides m w) (at (f .seen)) (length m) ≡ total (sides m w) (at s₀) (length m) + (f .blob .outline + summed (sides m w) (f .waiting))
   pub x0 : Hit m w a (column w) (f .blob .x0)
   pub x1 : Hit m w a (column w) (f .blob .x1)
   pub y0 : Hit m w a (row w) (f .blob .y0)
@@ -68,6 +70,7 @@ progress-start {m} {w} {a} {s} g =
       area = omega (arith, more one);
       sx = omega (arith, more (column w));
       sy = omega (arith, more (row w));
+      outline = omega (arith, more (sides m w));
       x0 = (a, me, refl);
       x1 = (a, me, refl);
       y0 = (a, me, refl);
@@ -86,13 +89,13 @@ progress-start {m} {w} {a} {s} g =
     alone q (newest e) = subst (Joined m w a) (sym e) (here (g .dark))
 
 -- ---- a turn: the newest pixel p is taken, counted, and its neighbours are visited
-boxed-more : {w : ℕ} (b : Blob) (p q : ℕ) → Boxed w b q → Boxed w (grow b (p % w) (p / w)) q
+boxed-more : {w : ℕ} (b : Blob) (p s q : ℕ) → Boxed w b q → Boxed w (grow b (p % w) (p / w) s) q
 unfolding grow
-boxed-more b p q h = record { x0 = omega (arith, h .x0); x1 = omega (arith, h .x1); y0 = omega (arith, h .y0); y1 = omega (arith, h .y1) }
+boxed-more b p s q h = record { x0 = omega (arith, h .x0); x1 = omega (arith, h .x1); y0 = omega (arith, h .y0); y1 = omega (arith, h .y1) }
 
-boxed-new : (w : ℕ) (b : Blob) (p : ℕ) → Boxed w (grow b (p % w) (p / w)) p
+boxed-new : (w : ℕ) (b : Blob) (p s : ℕ) → Boxed w (grow b (p % w) (p / w) s) p
 unfolding grow
-boxed-new w b p = record { x0 = omega arith; x1 = omega arith; y0 = omega arith; y1 = omega arith }
+boxed-new w b p s = record { x0 = omega arith; x1 = omega arith; y0 = omega arith; y1 = omega arith }
 
 hit-min : {m : List ℕ} {w a p : ℕ} (f : ℕ → ℕ) (v : ℕ) → Joined m w a p → Hit m w a f v → Hit m w a f (min v (f p))
 hit-min {m} {w} {a} {p} f v j h = go (decLt v (f p))
@@ -134,7 +137,7 @@ module _ {m : List ℕ} {w a : ℕ} {s₀ : List ℕ} (pix : Pixel m w a) (f : F
   around = spread-marks (marking (f .seen) k) here-pixel popped
 
   abbrev b′ : Blob
-  b′ = grow (f .blob) (p % w) (p / w)
+  b′ = grow (f .blob) (p % w) (p / w) (sides m w p)
 
   -- the sums of what waits, without p
   pop : (g : ℕ → ℕ) → summed g (f .waiting) ≡ summed g k + g p
@@ -146,13 +149,13 @@ module _ {m : List ℕ} {w a : ℕ} {s₀ : List ℕ} (pix : Pixel m w a) (f : F
   counts = omega (arith, v .area, r .even one, summed-one k, summed-one (z .waiting), pop one, summed-one (f .waiting))
 
   wait : (q : ℕ) → Waits q (p ∷ k) → Waits q (z .waiting) ⊎ (Around m w (z .seen) q × Boxed w b′ q)
-  wait q (newest e) = inr (subst (Around m w (z .seen)) (sym e) around, subst (Boxed w b′) (sym e) (boxed-new w (f .blob) p))
+  wait q (newest e) = inr (subst (Around m w (z .seen)) (sym e) around, subst (Boxed w b′) (sym e) (boxed-new w (f .blob) p (sides m w p)))
   wait q (older o) = inl (r .still q o)
 
   old : (q : ℕ) → at (f .seen) q ≡ 1 → (at s₀ q ≡ 1) ⊎ (Joined m w a q × (Waits q (z .waiting) ⊎ (Around m w (z .seen) q × Boxed w b′ q)))
   old q e =
       ⊎-elim inl
-      (λ x. inr (x .0, ⊎-elim (λ y. wait q (subst (Waits q) fe y)) (λ y. inr (λ u tu du. r .keeps u (y .0 u tu du), boxed-more (f .blob) p q (y .1))) (x .1)))
+      (λ x. inr (x .0, ⊎-elim (λ y. wait q (subst (Waits q) fe y)) (λ y. inr (λ u tu du. r .keeps u (y .0 u tu du), boxed-more (f .blob) p (sides m w p) q (y .1))) (x .1)))
       (v .done q e)
 
   progress-pop : Progress m w a s₀ (flooding (z .seen) (z .waiting) b′ (max (f .waited) (length (z .waiting))))
@@ -167,6 +170,7 @@ module _ {m : List ℕ} {w a : ℕ} {s₀ : List ℕ} (pix : Pixel m w a) (f : F
         area = counts;
         sx = omega (arith, v .sx, r .even (column w), pop (column w));
         sy = omega (arith, v .sy, r .even (row w), pop (row w));
+        outline = omega (arith, v .outline, r .even (sides m w), pop (sides m w));
         x0 = hit-min (column w) (f .blob .x0) jp (v .x0);
         x1 = hit-max (column w) (f .blob .x1) jp (v .x1);
         y0 = hit-min (row w) (f .blob .y0) jp (v .y0);
@@ -198,6 +202,10 @@ progress-sx {m} {w} {f = f} h v =
 pub progress-sy : {m : List ℕ} {w a : ℕ} {s₀ : List ℕ} {f : Flooding} → Pixel m w a → Progress m w a s₀ f → f .blob .sy ≤ 16777216 * 16777216
 progress-sy {m} {w} {f = f} h v =
     omega (arith, v .sy, total-most (row w) (at (f .seen)) 16777216 (length m) (v .held .flags) (λ q l. omega (arith, div-le-self q w, h .small)), mul-le-mul-right 16777216 (h .small))
+
+pub progress-outline : {m : List ℕ} {w a : ℕ} {s₀ : List ℕ} {f : Flooding} → Pixel m w a → Progress m w a s₀ f → f .blob .outline ≤ 16777216 * 4
+progress-outline {m} {w} {f = f} h v =
+    omega (arith, v .outline, total-most (sides m w) (at (f .seen)) 4 (length m) (v .held .flags) (λ q l. sides-most m w q), mul-le-mul-right 4 (h .small))
 
 -- ---- the end: a flood that has not ended has counted a pixel in each turn, and there are only so many
 take-none : (m : List ℕ) (w : ℕ) (f : Flooding) (k : List ℕ) → k ≡ [] → take m w f k ≡ f
@@ -243,6 +251,7 @@ pub record Flooded (m : List ℕ) (w a : ℕ) (s : List ℕ) (f : Flooding) : Ty
   pub all : (q : ℕ) → Joined m w a q → at (f .seen) q ≡ 1
   pub only : (q : ℕ) → at (f .seen) q ≡ 1 → (at s q ≡ 1) ⊎ Joined m w a q
   pub count : total one (at (f .seen)) (length m) ≡ total one (at s) (length m) + f .blob .area
+  pub edge : total (sides m w) (at (f .seen)) (length m) ≡ total (sides m w) (at s) (length m) + f .blob .outline
   pub some : 1 ≤ f .waited
   pub waited-held : f .waited ≤ f .blob .area
 
@@ -297,6 +306,7 @@ module _ {m : List ℕ} {w a : ℕ} {s₀ : List ℕ} (g : Ready m w s₀ a) (f 
         area-is = omega (arith, v .area, ap length fe, total-less one (at (f .seen)) (at s₀) (length m) mono);
         sx-is = omega (arith, v .sx, none-left (column w), total-less (column w) (at (f .seen)) (at s₀) (length m) mono);
         sy-is = omega (arith, v .sy, none-left (row w), total-less (row w) (at (f .seen)) (at s₀) (length m) mono);
+        outline-is = omega (arith, v .outline, none-left (sides m w), total-less (sides m w) (at (f .seen)) (at s₀) (length m) mono);
         x0-is = (λ q j. box q j .x0, v .x0);
         y0-is = (λ q j. box q j .y0, v .y0);
         x1-is = (λ q j. box q j .x1, v .x1);
@@ -313,6 +323,7 @@ module _ {m : List ℕ} {w a : ℕ} {s₀ : List ℕ} (g : Ready m w s₀ a) (f 
         all = all′;
         only = λ q e. ⊎-elim inl (λ x. inr (x .0)) (ended q e);
         count = omega (arith, v .area, ap length fe);
+        edge = omega (arith, v .outline, none-left (sides m w));
         some = v .some;
         waited-held = omega (arith, v .waited-held, v .area, ap length fe);
       }

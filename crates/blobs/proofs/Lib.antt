@@ -3,6 +3,8 @@ pub mod Sums
 pub mod Grid
 pub mod Steps
 pub mod Joins
+pub mod Marks
+pub mod Sides
 pub mod Floods
 pub mod Pairs
 pub mod Scans

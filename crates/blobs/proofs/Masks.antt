@@ -9,7 +9,7 @@ use native.Mathlib.Omega.{arith}
 use lib.Dec.{T, leb, ltb, eqb, leb→le, lt→ltb, eqb→eq, T-not, not-T, lit<, lit≤}
 use lib.Ieee.Fits.{and-l, and-r, eq→eqb}
 use lib.ListN.{length, getD, List·getD-eq-default}
-use Rattle.blobs.specs.Patches.{Dark, Touch, Joined, total, Marks, one, column, row, PatchOf, First, patchAt, PatchList}
+use Rattle.blobs.specs.Patches.{Dark, Touch, Joined, total, Marks, one, column, row, light, side, sides, PatchOf, First, patchAt, PatchList}
 use Rattle.blobs.specs.Patches.Touch.{right, left, under, over}
 use Rattle.blobs.specs.Patches.Joined.{here, step}
 
@@ -113,7 +113,7 @@ module _ (m : List ℕ) (w : ℕ) (c : List ℕ) (closed : T (all (length m) (ed
       leb→le (f q) v (use-implies (eqb (getD c q 0) 1) (leb (f q) v) (all-at (length m) (λ q. implies (eqb (getD c q 0) 1) (leb (f q) v)) h
       q (inside q (end-dark j))) (eq→eqb (sym (flag j) ∙ e)))
 
--- ---- M8: #.#, #.#, ### is one patch: 7 7 8 0 0 2 2
+-- ---- M8: #.#, #.#, ### is one patch: 7 7 8 0 0 2 2 16
 
 abbrev pub mask8 : List ℕ
 mask8 = 1 ∷ 0 ∷ 1 ∷ 1 ∷ 0 ∷ 1 ∷ 1 ∷ 1 ∷ 1 ∷ []
@@ -163,8 +163,8 @@ joins-u (suc (suc (suc (suc (suc (suc (suc zero))))))) l e = c7
 joins-u (suc (suc (suc (suc (suc (suc (suc (suc zero)))))))) l e = c8
 joins-u (suc (suc (suc (suc (suc (suc (suc (suc (suc q))))))))) l e = absurd (omega arith)
 
-pub m8 : PatchOf mask8 3 0 (record { area = 7; sx = 7; sy = 8; x0 = 0; y0 = 0; x1 = 2; y1 = 2 })
-unfolding total all implies
+pub m8 : PatchOf mask8 3 0 (record { area = 7; sx = 7; sy = 8; x0 = 0; y0 = 0; x1 = 2; y1 = 2; outline = 16 })
+unfolding total sides side light all implies
 m8 =
     record {
       marks = λ q. getD mask8 q 0;
@@ -172,6 +172,7 @@ m8 =
       area-is = refl;
       sx-is = refl;
       sy-is = refl;
+      outline-is = refl;
       x0-is = (at-least mask8 3 mask8 closed-u 0 0 (column 3) refl tt, (0, c0, refl));
       y0-is = (at-least mask8 3 mask8 closed-u 0 0 (row 3) refl tt, (0, c0, refl));
       x1-is = (at-most mask8 3 mask8 closed-u 0 2 (column 3) refl tt, (2, c2, refl));
@@ -272,8 +273,8 @@ flags-c : T (all (length mask7) (λ q. leb (getD vc q 0) 1))
 unfolding all
 flags-c = tt
 
-patch-a : PatchOf mask7 3 0 (record { area = 1; sx = 0; sy = 0; x0 = 0; y0 = 0; x1 = 0; y1 = 0 })
-unfolding total all implies
+patch-a : PatchOf mask7 3 0 (record { area = 1; sx = 0; sy = 0; x0 = 0; y0 = 0; x1 = 0; y1 = 0; outline = 4 })
+unfolding total sides side light all implies
 patch-a =
     record {
       marks = λ q. getD va q 0;
@@ -281,14 +282,15 @@ patch-a =
       area-is = refl;
       sx-is = refl;
       sy-is = refl;
+      outline-is = refl;
       x0-is = (at-least mask7 3 va closed-a 0 0 (column 3) refl tt, (0, a0, refl));
       y0-is = (at-least mask7 3 va closed-a 0 0 (row 3) refl tt, (0, a0, refl));
       x1-is = (at-most mask7 3 va closed-a 0 0 (column 3) refl tt, (0, a0, refl));
       y1-is = (at-most mask7 3 va closed-a 0 0 (row 3) refl tt, (0, a0, refl));
     }
 
-patch-b : PatchOf mask7 3 2 (record { area = 1; sx = 2; sy = 0; x0 = 2; y0 = 0; x1 = 2; y1 = 0 })
-unfolding total all implies
+patch-b : PatchOf mask7 3 2 (record { area = 1; sx = 2; sy = 0; x0 = 2; y0 = 0; x1 = 2; y1 = 0; outline = 4 })
+unfolding total sides side light all implies
 patch-b =
     record {
       marks = λ q. getD vb q 0;
@@ -296,14 +298,15 @@ patch-b =
       area-is = refl;
       sx-is = refl;
       sy-is = refl;
+      outline-is = refl;
       x0-is = (at-least mask7 3 vb closed-b 2 2 (column 3) refl tt, (2, b2, refl));
       y0-is = (at-least mask7 3 vb closed-b 2 0 (row 3) refl tt, (2, b2, refl));
       x1-is = (at-most mask7 3 vb closed-b 2 2 (column 3) refl tt, (2, b2, refl));
       y1-is = (at-most mask7 3 vb closed-b 2 0 (row 3) refl tt, (2, b2, refl));
     }
 
-patch-c : PatchOf mask7 3 4 (record { area = 3; sx = 2; sy = 5; x0 = 0; y0 = 1; x1 = 1; y1 = 2 })
-unfolding total all implies
+patch-c : PatchOf mask7 3 4 (record { area = 3; sx = 2; sy = 5; x0 = 0; y0 = 1; x1 = 1; y1 = 2; outline = 8 })
+unfolding total sides side light all implies
 patch-c =
     record {
       marks = λ q. getD vc q 0;
@@ -311,6 +314,7 @@ patch-c =
       area-is = refl;
       sx-is = refl;
       sy-is = refl;
+      outline-is = refl;
       x0-is = (at-least mask7 3 vc closed-c 4 0 (column 3) refl tt, (6, d6, refl));
       y0-is = (at-least mask7 3 vc closed-c 4 1 (row 3) refl tt, (4, c4, refl));
       x1-is = (at-most mask7 3 vc closed-c 4 1 (column 3) refl tt, (4, c4, refl));
@@ -319,7 +323,7 @@ patch-c =
 
 -- the list as `patches` prints it
 abbrev pub list7 : List ℕ
-list7 = 1 ∷ 0 ∷ 0 ∷ 0 ∷ 0 ∷ 0 ∷ 0 ∷ 1 ∷ 2 ∷ 0 ∷ 2 ∷ 0 ∷ 2 ∷ 0 ∷ 3 ∷ 2 ∷ 5 ∷ 0 ∷ 1 ∷ 1 ∷ 2 ∷ []
+list7 = 1 ∷ 0 ∷ 0 ∷ 0 ∷ 0 ∷ 0 ∷ 0 ∷ 4 ∷ 1 ∷ 2 ∷ 0 ∷ 2 ∷ 0 ∷ 2 ∷ 0 ∷ 4 ∷ 3 ∷ 2 ∷ 5 ∷ 0 ∷ 1 ∷ 1 ∷ 2 ∷ 8 ∷ []
 
 abbrev pub firsts7 : List ℕ
 firsts7 = 0 ∷ 2 ∷ 4 ∷ []
@@ -365,7 +369,7 @@ every7 (suc (suc (suc (suc (suc (suc (suc (suc zero)))))))) d = absurd (d refl)
 every7 (suc (suc (suc (suc (suc (suc (suc (suc (suc q))))))))) d = absurd (d refl)
 
 pub m7 : PatchList mask7 3 list7 list7 3 firsts7
-unfolding total patchAt
+unfolding total sides side light patchAt
 m7 =
     record {
       many = refl;
@@ -375,13 +379,14 @@ m7 =
       records = records7;
       every = every7;
       areas = refl;
+      outlines = refl;
       few = lit≤ tt;
       rest = refl;
     }
 
 -- ---- M8 as a list
 abbrev pub list8 : List ℕ
-list8 = 7 ∷ 7 ∷ 8 ∷ 0 ∷ 0 ∷ 2 ∷ 2 ∷ []
+list8 = 7 ∷ 7 ∷ 8 ∷ 0 ∷ 0 ∷ 2 ∷ 2 ∷ 16 ∷ []
 
 first8 : (j : ℕ) → j < 1 → First mask8 3 (getD (0 ∷ []) j 0)
 first8 zero l = (is1 refl, λ q j. omega arith)
@@ -408,7 +413,7 @@ every8 q d = (0, lit< tt, joins-u q (inside mask8 3 mask8 closed-u q d) (flagged
     flagged (suc (suc (suc (suc (suc (suc (suc (suc (suc q))))))))) d = absurd (d refl)
 
 pub m8-list : PatchList mask8 3 list8 list8 1 (0 ∷ [])
-unfolding total patchAt
+unfolding total sides side light patchAt
 m8-list =
     record {
       many = refl;
@@ -418,6 +423,7 @@ m8-list =
       records = records8;
       every = every8;
       areas = refl;
+      outlines = refl;
       few = lit≤ tt;
       rest = refl;
     }

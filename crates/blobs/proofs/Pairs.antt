@@ -5,7 +5,7 @@ use native.Mathlib.Nat.{add-mul, mul-add, one-mul, add-zero, zero-mul, suc-mul, 
 use native.Mathlib.Numerals.{add-one}
 use native.Mathlib.Decide.{ℕ-discrete}
 use native.Mathlib.Omega.{arith}
-use mathlib.Core.Path.{_≡_, refl, sym, ap, ap₂, _∙_, subst}
+use mathlib.Core.Path.{_≡_, sym, ap, ap₂, _∙_, subst}
 use mathlib.Core.List.{List}
 use mathlib.Core.Logic.{_⊎_, inl, inr}
 use lib.Arith.{digits-mod}
@@ -14,17 +14,12 @@ use Rattle.blobs.specs.Patches.{Touch, First, total, one}
 use Rattle.blobs.specs.Patches.Touch.{right, left, under, over}
 use Rattle.blobs.specs.Patches.Joined.{here, step}
 use Rattle.blobs.proofs.Grid.{touch-back}
-use Rattle.blobs.proofs.Sums.{total-below}
+use Rattle.blobs.proofs.Sums.{total-below, total-add}
 
 pub total-split : (c : ℕ → ℕ) (a b : ℕ) → total one c (a + b) ≡ total one c a + total one (λ q. c (a + q)) b
 unfolding total
 total-split c a zero = rw (add-zero, add-zero)
 total-split c a (suc b) = let h = total-split c a b in rw (add-suc) (omega (arith, h))
-
-total-add : (c d : ℕ → ℕ) (n : ℕ) → total one (λ q. c q + d q) n ≡ total one c n + total one d n
-unfolding total
-total-add c d zero = refl
-total-add c d (suc n) = omega (arith, total-add c d n, mul-one (c n), mul-one (d n), mul-one (c n + d n))
 
 -- of two neighbours in a row one counts at most
 row-half : (c : ℕ → ℕ) (n : ℕ) → ((q : ℕ) → q < n → c q ≤ 1) → ((q : ℕ) → q + 1 < n → c q + c (q + 1) ≤ 1) → 2 * total one c n ≤ n + 1

@@ -13,7 +13,7 @@ use borrow.Author.Tests.{eqb-true, eqb-false}
 use Rattle.base.specs.Loops.{turns}
 use Rattle.base.proofs.Pick.{cond-elim}
 use Rattle.blobs.specs.declared.Blob.{Blob}
-use Rattle.blobs.specs.Patches.{Dark, Joined, total, one, PatchOf, First, ink}
+use Rattle.blobs.specs.Patches.{Dark, Joined, total, one, sides, PatchOf, First, ink}
 use Rattle.blobs.specs.Patches.Joined.{here, step}
 use Rattle.blobs.specs.Stack.{Flooding, flood, Scanned, listed, scan, unmarked}
 use Rattle.blobs.specs.Ready.{at, Closed, Ready, Sized}
@@ -24,7 +24,7 @@ use Rattle.blobs.proofs.Floods.{Flooded, flood-does}
 use Rattle.blobs.proofs.Pairs.{firsts-few}
 
 abbrev pub none : Blob
-none = record { area = 0; sx = 0; sy = 0; x0 = 0; y0 = 0; x1 = 0; y1 = 0 }
+none = record { area = 0; sx = 0; sy = 0; x0 = 0; y0 = 0; x1 = 0; y1 = 0; outline = 0 }
 
 abbrev pub blobAt : Scanned → ℕ → Blob
 blobAt c j = getD (c .blobs) j none
@@ -51,6 +51,7 @@ pub record Scan (m : List ℕ) (w : ℕ) (c : Scanned) (i : ℕ) : Type 0 where
   pub before : (j : ℕ) → j < count c → at firsts j < i
   pub every : (q : ℕ) → at (c .seen) q ≡ 1 → (j : ℕ) × (j < count c) × Joined m w (at firsts j) q
   pub areas : total (λ j. blobAt c j .area) one (count c) ≡ total one (at (c .seen)) (length m)
+  pub outlines : total (λ j. blobAt c j .outline) one (count c) ≡ total (sides m w) (at (c .seen)) (length m)
   pub waited-held : ((count c ≡ 0) × (c .waited ≡ 0)) ⊎ ((1 ≤ c .waited) × ((j : ℕ) × (j < count c) × (c .waited ≤ blobAt c j .area)))
   -- the first pixels once more, as flags
   pub flag : List ℕ
@@ -81,6 +82,7 @@ scan-pass {m} {w} {c} {i} h v =
       before = λ j b. omega (arith, v .before j b);
       every = v .every;
       areas = v .areas;
+      outlines = v .outlines;
       waited-held = v .waited-held;
       flag = v .flag;
       flag-long = v .flag-long;
@@ -201,17 +203,19 @@ module _ {m : List ℕ} {w : ℕ} {c : Scanned} {i : ℕ} (v : Scan m w c i) (in
         ⊎-elim (λ x. let y = v .every q x in (y .0, omega (arith, y .1, more), subst (λ (z : ℕ). Joined m w z q) (sym (first-old (y .0) (y .1))) (y .2)))
         (λ x. (count c, omega (arith, more), subst (λ (z : ℕ). Joined m w z q) (sym first-new) x)) (g .only q e)
 
-    areas′ : total (λ j. blobAt c′ j .area) one (count c′) ≡ total one (at (f .seen)) (length m)
-    areas′ =
-        ap (total (λ j. blobAt c′ j .area) one) more
+    -- a number that each record has of its pixels, added up over the records
+    sums : (t : Blob → ℕ) (k : ℕ → ℕ) → total k (at (f .seen)) (length m) ≡ total k (at (c .seen)) (length m) + t (f .blob)
+        → total (λ j. t (blobAt c j)) one (count c) ≡ total k (at (c .seen)) (length m)
+        → total (λ j. t (blobAt c′ j)) one (count c′) ≡ total k (at (f .seen)) (length m)
+    sums t k grown old =
+        ap (total (λ j. t (blobAt c′ j)) one) more
         ∙ omega (
           arith,
-          g .count,
-          v .areas,
-          total-next (λ j. blobAt c′ j .area) (count c),
-          total-same-f (λ j. blobAt c′ j .area)
-              (λ j. blobAt c j .area) (count c) (λ j b. ap (λ (x : Blob). x .area) (blob-old j b)),
-          ap (λ (x : Blob). x .area) blob-new,
+          grown,
+          old,
+          total-next (λ j. t (blobAt c′ j)) (count c),
+          total-same-f (λ j. t (blobAt c′ j)) (λ j. t (blobAt c j)) (count c) (λ j b. ap t (blob-old j b)),
+          ap t blob-new,
         )
 
     waited-held′ : ((count c′ ≡ 0) × (c′ .waited ≡ 0)) ⊎ ((1 ≤ c′ .waited) × ((j : ℕ) × (j < count c′) × (c′ .waited ≤ blobAt c′ j .area)))
@@ -246,7 +250,8 @@ module _ {m : List ℕ} {w : ℕ} {c : Scanned} {i : ℕ} (v : Scan m w c i) (in
           records = both (λ j. PatchOf m w (at firsts′ j) (blobAt c′ j)) old-record new-record;
           before = before′;
           every = every′;
-          areas = areas′;
+          areas = sums (λ t. t .area) one (g .count) (v .areas);
+          outlines = sums (λ t. t .outline) (sides m w) (g .edge) (v .outlines);
           waited-held = waited-held′;
           flag = flag′;
           flag-long = length-set (v .flag) i 1 ∙ v .flag-long;
@@ -278,7 +283,7 @@ unfolding total unmarked
 scan-start {m} {w} {h} g =
     let n : ℕ = length m in
     let z = zeros n in
-    let t : total one (at (replicate n 0)) n ≡ 0 = total-zero one (at (replicate n 0)) n z in
+    let t : (k : ℕ → ℕ) → total k (at (replicate n 0)) n ≡ 0 = λ k. total-zero k (at (replicate n 0)) n z in
     record {
       wide = g .wide;
       narrow = g .narrow;
@@ -296,14 +301,15 @@ scan-start {m} {w} {h} g =
       records = λ j b. absurd (omega arith);
       before = λ j b. absurd (omega arith);
       every = λ q e. absurd (omega (arith, e, z q));
-      areas = sym t;
+      areas = sym (t one);
+      outlines = sym (t (sides m w));
       waited-held = inl (refl, refl);
       flag = replicate n 0;
       flag-long = length-replicate n zero;
       flag-most = λ q. omega (arith, z q);
       flag-before = λ q e. absurd (omega (arith, e, z q));
       flag-first = λ q e. absurd (omega (arith, e, z q));
-      flag-many = t;
+      flag-many = t one;
     }
 
 pub scan-turns : {m : List ℕ} {w h : ℕ} → Sized m w h → (i : ℕ) → i ≤ length m → Scan m w (turns i (scan m w) (unmarked m)) i
@@ -327,5 +333,11 @@ module _ {m : List ℕ} {w : ℕ} {c : Scanned} (v : Scan m w c (length m)) wher
   pub scan-half : 2 * count c ≤ length m + 1
   scan-half = omega (arith, v .flag-many, firsts-few m w (v .high) (at (v .flag)) (v .wide) (v .size) (v .flag-most) (v .flag-first))
 
+  seen-total : (k : ℕ → ℕ) → total k (at (c .seen)) (length m) ≡ total k (ink m) (length m)
+  seen-total k = total-same k (at (c .seen)) (ink m) (length m) (λ q b. seen-ink q)
+
   pub areas-ink : total (λ j. blobAt c j .area) one (count c) ≡ total one (ink m) (length m)
-  areas-ink = v .areas ∙ total-same one (at (c .seen)) (ink m) (length m) (λ q b. seen-ink q)
+  areas-ink = v .areas ∙ seen-total one
+
+  pub outlines-ink : total (λ j. blobAt c j .outline) one (count c) ≡ total (sides m w) (ink m) (length m)
+  outlines-ink = v .outlines ∙ seen-total (sides m w)

@@ -12,7 +12,7 @@ use Rattle.base.specs.Loops.{turns, table}
 use Rattle.base.proofs.Pick.{pick-yes, pick-no, cond-elim}
 use Rattle.base.proofs.Turns.{turns-stay}
 use Rattle.blobs.specs.declared.Blob.{Blob}
-use Rattle.blobs.specs.Patches.{patchAt, stored, recordLength}
+use Rattle.blobs.specs.Patches.{sides, patchAt, stored, recordLength}
 use Rattle.blobs.specs.Stack.{Marking, marking, stackOf, visit, visitLeft, visitRight, visitUp, spread, grow, noBlob, Flooding, flooding, begun, take, floodStep}
 use Rattle.blobs.specs.Stack.{flood, Scanned, scanned, listed, scan}
 use Rattle.blobs.specs.Ready.{at, Held, Stacked, Pixel}
@@ -81,7 +81,7 @@ begun-is s k w a b l e = let g : getD (set k 0 a) 0 0 ≡ a = getD-set-same k 0 
 
 module _ (m : List ℕ) (w i : ℕ) (s k : List ℕ) (t : ℕ) (b : Blob) (d : ℕ) (s′ k′ : List ℕ) (t′ : ℕ) (b′ : Blob) (d′ : ℕ) where
   pub floodStep-is : (l : ℕ) → t ≡ l + 1 → marking s′ (stackOf k′ t′) ≡ spread m w (at k l) (marking s (stackOf k l)) → b′
-      ≡ grow b (at k l % w) (at k l / w) → d′ ≡ max d t′
+      ≡ grow b (at k l % w) (at k l / w) (sides m w (at k l)) → d′ ≡ max d t′
       → flooding s′ (stackOf k′ t′) b′ d′ ≡ floodStep m w i (flooding s (stackOf k t) b d)
   unfolding floodStep take
   floodStep-is l te e be de =
@@ -89,9 +89,9 @@ module _ (m : List ℕ) (w i : ℕ) (s k : List ℕ) (t : ℕ) (b : Blob) (d : �
       de ∙ ap (max d) (sym (length-stack k′ t′) ∙ ap (λ (a : Marking). length (a .waiting)) e) in
       (λ j. flooding (e j .seen) (e j .waiting) (be j) (de′ j)) ∙ sym (ap (take m w (flooding s (stackOf k t) b d)) (stack-pop k t l te))
 
-pub grow-area : (b b′ : Blob) (x y : ℕ) → b′ ≡ grow b x y → b′ .area ≡ b .area + 1
+pub grow-area : (b b′ : Blob) (x y s : ℕ) → b′ ≡ grow b x y s → b′ .area ≡ b .area + 1
 unfolding grow
-grow-area b b′ x y e = ap (λ (z : Blob). z .area) e
+grow-area b b′ x y s e = ap (λ (z : Blob). z .area) e
 
 pub flood-is : (m : List ℕ) (w a : ℕ) (s₀ : List ℕ) (n : ℕ) (f : Flooding) → f .waiting ≡ [] → n ≤ length m → f
     ≡ turns n (floodStep m w) (begun w a s₀) → f ≡ flood m w a s₀
@@ -113,7 +113,7 @@ module _ (m : List ℕ) (w i : ℕ) (c : Scanned) where
   unfolding scan
   scan-list d u = pick-yes (eqb (at (c .seen) i) 0) _ c (eq-eqb (at (c .seen) i) 0 u) ∙ pick-no (eqb (at m i) 0) c _ (ne-eqb (at m i) 0 d)
 
-pub scan-stored : (m : List ℕ) (w i : ℕ) (s l : List ℕ) (n d : ℕ) (s′ : List ℕ) (b : Blob) (e d′ : ℕ) → (at m i ≡ 0 → ⊥) → at s i ≡ 0 → recordLength * n + 7 ≤ length l
+pub scan-stored : (m : List ℕ) (w i : ℕ) (s l : List ℕ) (n d : ℕ) (s′ : List ℕ) (b : Blob) (e d′ : ℕ) → (at m i ≡ 0 → ⊥) → at s i ≡ 0 → recordLength * (n + 1) ≤ length l
     → flooding s′ [] b e ≡ flood m w i s → d′ ≡ max d e
     → scanned s′ (table (patchAt (stored l n b)) (n + 1)) d′ ≡ scan m w i (scanned s (table (patchAt l) n) d)
 scan-stored m w i s l n d s′ b e d′ dark u r fe de =

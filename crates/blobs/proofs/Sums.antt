@@ -101,6 +101,11 @@ unfolding total
 total-zero f c zero h = refl
 total-zero f c (suc n) h = rw (total-zero f c n h, h n) (omega (arith, zero-mul (f n)))
 
+pub total-add : (c d : ℕ → ℕ) (n : ℕ) → total one (λ q. c q + d q) n ≡ total one c n + total one d n
+unfolding total
+total-add c d zero = refl
+total-add c d (suc n) = omega (arith, total-add c d n, mul-one (c n), mul-one (d n), mul-one (c n + d n))
+
 -- what c counts more than d
 pub total-less : (f c d : ℕ → ℕ) (n : ℕ) → ((q : ℕ) → d q ≤ c q) → total f c n ≡ total f d n + total f (λ q. c q - d q) n
 unfolding total

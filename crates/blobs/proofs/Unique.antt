@@ -1,6 +1,5 @@
 -- What the statements decide: a patch has one record, and a mask one number of patches and one patch list. Assumes nothing.
 use mathlib.Core.Path.{_≡_, sym, ap, subst, _∙_}
-use mathlib.Core.Logic.{⊎-elim}
 use mathlib.Core.List.{List}
 use Prim.Native.Nat.{ℕ, _≤_, _<_}
 use native.Mathlib.Nat.{le-antisymm}
@@ -11,15 +10,10 @@ use Rattle.base.specs.Loops.{table}
 use Rattle.base.proofs.Enumerations.{Within, within-same, within-number}
 use Rattle.base.proofs.Table.{table-cong}
 use Rattle.blobs.specs.declared.Blob.{Blob}
-use Rattle.blobs.specs.Patches.{Joined, Marks, Least, Greatest, one, column, row, PatchOf, First, PatchCount, patchAt, PatchList}
+use Rattle.blobs.specs.Patches.{Joined, total, Least, Greatest, one, column, row, sides, PatchOf, First, PatchCount, patchAt, PatchList}
 use Rattle.blobs.proofs.Sums.{total-same}
+use Rattle.blobs.proofs.Marks.{marks-same}
 use Rattle.blobs.proofs.Joins.{joined-sym}
-
-marks-same : (c d : ℕ → ℕ) (P : ℕ → Type 0) → Marks c P → Marks d P → (q : ℕ) → c q ≡ d q
-marks-same c d P m n q = ⊎-elim
-    (λ a. ⊎-elim (λ b. a .0 ∙ sym (b .0)) (λ b. absurd (b .1 (a .1))) (n q))
-    (λ a. ⊎-elim (λ b. absurd (a .1 (b .1))) (λ b. a .0 ∙ sym (b .0)) (n q))
-    (m q)
 
 least-same : (f : ℕ → ℕ) (P : ℕ → Type 0) (a b : ℕ) → Least f P a → Least f P b → a ≡ b
 least-same f P a b l m = le-antisymm (subst (λ z. a ≤ z) (m .1 .2) (l .0 (m .1 .0) (m .1 .1))) (subst (λ z. b ≤ z) (l .1 .2) (m .0 (l .1 .0) (l .1 .1)))
@@ -32,14 +26,16 @@ pub patch-unique : (m : List ℕ) (w a : ℕ) (t u : Blob) → PatchOf m w a t �
 patch-unique m w a t u p q =
     let J = Joined m w a in
     let e : (k : ℕ) → p .marks k ≡ q .marks k = marks-same (p .marks) (q .marks) J (p .marked) (q .marked) in
-    let k0 : t .area ≡ u .area = p .area-is ∙ total-same one (p .marks) (q .marks) (length m) (λ k l. e k) ∙ sym (q .area-is) in
-    let k1 : t .sx ≡ u .sx = p .sx-is ∙ total-same (column w) (p .marks) (q .marks) (length m) (λ k l. e k) ∙ sym (q .sx-is) in
-    let k2 : t .sy ≡ u .sy = p .sy-is ∙ total-same (row w) (p .marks) (q .marks) (length m) (λ k l. e k) ∙ sym (q .sy-is) in
+    let s : (f : ℕ → ℕ) → total f (p .marks) (length m) ≡ total f (q .marks) (length m) = λ f. total-same f (p .marks) (q .marks) (length m) (λ k l. e k) in
+    let k0 : t .area ≡ u .area = p .area-is ∙ s one ∙ sym (q .area-is) in
+    let k1 : t .sx ≡ u .sx = p .sx-is ∙ s (column w) ∙ sym (q .sx-is) in
+    let k2 : t .sy ≡ u .sy = p .sy-is ∙ s (row w) ∙ sym (q .sy-is) in
     let k3 : t .x0 ≡ u .x0 = least-same (column w) J (t .x0) (u .x0) (p .x0-is) (q .x0-is) in
     let k4 : t .y0 ≡ u .y0 = least-same (row w) J (t .y0) (u .y0) (p .y0-is) (q .y0-is) in
     let k5 : t .x1 ≡ u .x1 = greatest-same (column w) J (t .x1) (u .x1) (p .x1-is) (q .x1-is) in
     let k6 : t .y1 ≡ u .y1 = greatest-same (row w) J (t .y1) (u .y1) (p .y1-is) (q .y1-is) in
-    λ i. record { area = k0 i; sx = k1 i; sy = k2 i; x0 = k3 i; y0 = k4 i; x1 = k5 i; y1 = k6 i }
+    let k7 : t .outline ≡ u .outline = p .outline-is ∙ s (sides m w) ∙ sym (q .outline-is) in
+    λ i. record { area = k0 i; sx = k1 i; sy = k2 i; x0 = k3 i; y0 = k4 i; x1 = k5 i; y1 = k6 i; outline = k7 i }
 
 -- ---- the patch list is decided by the mask
 

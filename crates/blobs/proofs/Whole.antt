@@ -17,7 +17,7 @@ use Rattle.blobs.specs.Ready.{at, Sized}
 use Rattle.blobs.specs.Areas.{patchAreas}
 use Rattle.blobs.specs.Labels.{Labels}
 use Rattle.blobs.proofs.Sums.{total-same-f}
-use Rattle.blobs.proofs.Scans.{Scan, none, scan-turns, seen-all, seen-ink, scan-half, areas-ink}
+use Rattle.blobs.proofs.Scans.{Scan, none, scan-turns, seen-all, seen-ink, scan-half, areas-ink, outlines-ink}
 
 -- the areas as the scan left them
 pub scan-at : {m : List ℕ} {w h : ℕ} → Sized m w h → (c : Scanned) (i : ℕ) → i ≤ length m → c ≡ turns i (scan m w) (unmarked m) → Scan m w c i
@@ -28,7 +28,7 @@ unfolding turns table unmarked
 scan-begun m w s l e = ap (λ x. scanned x [] 0) e
 
 -- room for one record more
-pub few-room : (c n z r : ℕ) → c ≡ n → 2 * (c + 1) ≤ z + 1 → 7 * ((z + 1) / 2) ≤ r → 7 * n + 7 ≤ r
+pub few-room : (c n z r : ℕ) → c ≡ n → 2 * (c + 1) ≤ z + 1 → recordLength * ((z + 1) / 2) ≤ r → recordLength * (n + 1) ≤ r
 few-room c n z r e a b = omega arith
 
 module _ {m : List ℕ} {w h : ℕ} (g : Sized m w h) (s k l s′ k′ l′ : List ℕ) (n d : ℕ) (e : scanned s′ (table (patchAt l′) n) d ≡ turns (length m) (scan m w) (unmarked m)) where
@@ -41,6 +41,12 @@ module _ {m : List ℕ} {w h : ℕ} (g : Sized m w h) (s k l s′ k′ l′ : Li
   is : (j : ℕ) → j < n → getD (table (patchAt l′) n) j none ≡ patchAt l′ j
   is j b = table-at (patchAt l′) n j none b
 
+  -- a number of the records, added up: of those in the list, and of those that the scan has
+  sums : (t : Blob → ℕ) → total (λ j. t (patchAt l′ j)) one n ≡ total (λ j. t (getD (table (patchAt l′) n) j none)) one (length (table (patchAt l′) n))
+  sums t =
+      total-same-f (λ j. t (patchAt l′ j)) (λ j. t (getD (table (patchAt l′) n) j none)) n (λ j b. ap t (sym (is j b)))
+      ∙ ap (total (λ j. t (getD (table (patchAt l′) n) j none)) one) (sym many)
+
   list : length l′ ≡ length l → drop (recordLength * n) l′ ≡ drop (recordLength * n) l → PatchList m w l l′ n (v .firsts)
   list long rest =
       record {
@@ -50,8 +56,8 @@ module _ {m : List ℕ} {w h : ℕ} (g : Sized m w h) (s k l s′ k′ l′ : Li
         ordered = λ i j b c. v .ordered i j b (omega (arith, many));
         records = λ j b. subst (PatchOf m w (at (v .firsts) j)) (is j b) (v .records j (omega (arith, many)));
         every = λ q x. let y = v .every q (seen-all v q x) in (y .0, omega (arith, y .1, many), y .2);
-        areas = total-same-f (λ j. patchAt l′ j .area) (λ j. getD (table (patchAt l′) n) j none .area) n (λ j b. ap (λ (t : Blob). t .area)
-            (sym (is j b))) ∙ ap (total (λ j. getD (table (patchAt l′) n) j none .area) one) (sym many) ∙ areas-ink v;
+        areas = sums (λ t. t .area) ∙ areas-ink v;
+        outlines = sums (λ t. t .outline) ∙ outlines-ink v;
         few = omega (arith, scan-half v, many);
         rest = rest;
       }

@@ -6,7 +6,7 @@ pub record PatchAreas : Type 0 where
   -- the visited marks
   pub seen : List ℕ
   pub waiting : List ℕ
-  -- seven numbers a record
+  -- recordLength numbers a record
   pub patches : List ℕ
 
 -- the areas in the order in which a call is handed them

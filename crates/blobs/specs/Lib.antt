@@ -1,5 +1,6 @@
 -- Definitions that the contracts of this crate cite.
 pub mod Patches
+pub mod Sides
 pub mod Stack
 pub mod Ready
 pub mod Areas

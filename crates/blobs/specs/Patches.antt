@@ -1,9 +1,11 @@
 -- Patches of dark pixels (requirements, 7). A mask is the list of its pixels in raster order, w to a row:
 -- pixel p stands in column p % w and row p / w. Assumes nothing.
-use Prim.Native.Nat.{ℕ, zero, suc, _+_, _*_, _/_, _%_, _≤_, _<_, min}
+use Prim.Native.Nat.{ℕ, zero, suc, _+_, _*_, _-_, _/_, _%_, _≤_, _<_, min}
 use mathlib.Core.Path.{_≡_}
+use mathlib.Core.Bool.{Bool, cond}
 use mathlib.Core.List.{List}
 use mathlib.Core.Logic.{_⊎_}
+use lib.Dec.{leb, ltb}
 use lib.ListN.{length, getD, set, drop}
 use Rattle.blobs.specs.declared.Blob.{Blob}
 
@@ -48,8 +50,27 @@ column w q = q % w
 abbrev pub row : ℕ → ℕ → ℕ
 row w q = q / w
 
--- [7.1] a patch is a whole class; [7.3] its record has area, sum of x, sum of y and the box x0, y0, x1, y1. t is the
--- record of the class of the pixel a
+-- 1 for a dark pixel, 0 for a light one
+abbrev pub ink : List ℕ → ℕ → ℕ
+ink m q = min (getD m q 0) 1
+
+-- .. and the other way round
+unfoldable pub light : List ℕ → ℕ → ℕ
+light m q = 1 - ink m q
+
+-- a side towards the pixel q: 1 where q is light, or where the picture has no pixel there
+unfoldable pub side : List ℕ → Bool → ℕ → ℕ
+side m there q = cond there (light m q) 1
+
+-- [24.2] how many sides of the pixel p "face a light pixel or the picture's border": left, right, upper, lower (the
+-- mask's length is that of whole rows of w). Sides says it by `Touch` and `Dark`
+unfoldable pub sides : List ℕ → ℕ → ℕ → ℕ
+sides m w p =
+    side m (ltb 0 (p % w)) (p - 1) + side m (ltb (p % w + 1) w) (p + 1) + side m (leb w p) (p - w)
+    + side m (ltb (p + w) (length m)) (p + w)
+
+-- [7.1] a patch is a whole class; [7.3] its record has area, sum of x, sum of y and the box x0, y0, x1, y1; [24.1] it
+-- "gains its outline". t is the record of the class of the pixel a
 pub record PatchOf (m : List ℕ) (w a : ℕ) (t : Blob) : Type 0 where
   pub marks : ℕ → ℕ
   pub marked : Marks marks (Joined m w a)
@@ -60,6 +81,8 @@ pub record PatchOf (m : List ℕ) (w a : ℕ) (t : Blob) : Type 0 where
   pub y0-is : Least (row w) (Joined m w a) (t .y0)
   pub x1-is : Greatest (column w) (Joined m w a) (t .x1)
   pub y1-is : Greatest (row w) (Joined m w a) (t .y1)
+  -- [24.2] "the count of its pixel sides that face a light pixel or the picture's border"
+  pub outline-is : t .outline ≡ total (sides m w) marks (length m)
 
 -- p is the first pixel of its patch in raster order
 abbrev pub First : List ℕ → ℕ → ℕ → Type 0
@@ -74,14 +97,10 @@ pub record PatchCount (m : List ℕ) (w n : ℕ) : Type 0 where
   pub ordered : (i j : ℕ) → i < j → j < n → getD firsts i 0 < getD firsts j 0
   pub every : (q : ℕ) → Dark m q → (j : ℕ) × (j < n) × Joined m w (getD firsts j 0) q
 
--- 1 for a dark pixel, 0 for a light one
-abbrev pub ink : List ℕ → ℕ → ℕ
-ink m q = min (getD m q 0) 1
-
--- ---- the list: seven numbers a record
+-- ---- the list: eight numbers a record; [24.3] the outline is the eighth
 
 abbrev pub recordLength : ℕ
-recordLength = 7
+recordLength = 8
 
 unfoldable pub patchAt : List ℕ → ℕ → Blob
 patchAt l j =
@@ -94,14 +113,15 @@ patchAt l j =
       y0 = getD l (i + 4) 0;
       x1 = getD l (i + 5) 0;
       y1 = getD l (i + 6) 0;
+      outline = getD l (i + 7) 0;
     }
 
 -- the list with record j written
 unfoldable pub stored : List ℕ → ℕ → Blob → List ℕ
 stored l j b =
     let i = recordLength * j in
-    set (set (set (set (set (set (set l i (b .area)) (i + 1) (b .sx)) (i + 2) (b .sy)) (i + 3) (b .x0)) (i + 4)
-    (b .y0)) (i + 5) (b .x1)) (i + 6) (b .y1)
+    set (set (set (set (set (set (set (set l i (b .area)) (i + 1) (b .sx)) (i + 2) (b .sy)) (i + 3) (b .x0)) (i + 4)
+    (b .y0)) (i + 5) (b .x1)) (i + 6) (b .y1)) (i + 7) (b .outline)
 
 -- [7.5] the highest number of pixels waiting: free, but 0 without dark pixels and otherwise from 1 to the largest
 -- area
@@ -121,6 +141,9 @@ pub record PatchList (m : List ℕ) (w : ℕ) (l l′ : List ℕ) (n : ℕ) (fir
   pub every : (q : ℕ) → Dark m q → (j : ℕ) × (j < n) × Joined m w (getD firsts j 0) q
   -- [0.7] their areas add up to the dark pixels
   pub areas : total (λ j. patchAt l′ j .area) one n ≡ total one (ink m) (length m)
+  -- [24.5] "summed over all patches, outlines equal the number of dark pixel sides facing light or border, counted
+  -- straight from the mask"
+  pub outlines : total (λ j. patchAt l′ j .outline) one n ≡ total (sides m w) (ink m) (length m)
   -- [3.1] ⌈w·h/2⌉ patch records are enough
   pub few : 2 * n ≤ length m + 1
   -- [3.2] records past the last stay as they were

@@ -9,6 +9,7 @@ use lib.Dec.{leb, ltb, eqb}
 use lib.ListN.{length, getD, set, replicate}
 use Rattle.base.specs.Loops.{turns}
 use Rattle.blobs.specs.declared.Blob.{Blob}
+use Rattle.blobs.specs.Patches.{sides}
 
 -- the marks, and the pixels waiting, newest first
 pub record Marking : Type 0 where
@@ -48,9 +49,9 @@ spread m w p a = visitDown m w p (visitUp m w p (visitRight m w p (visitLeft m w
 
 -- ---- one patch
 
--- a record with one pixel more, in column x and row y
-unfoldable pub grow : Blob → ℕ → ℕ → Blob
-grow b x y =
+-- a record with one pixel more, in column x and row y, with s sides that count
+unfoldable pub grow : Blob → ℕ → ℕ → ℕ → Blob
+grow b x y s =
     record {
       area = b .area + 1;
       sx = b .sx + x;
@@ -59,6 +60,7 @@ grow b x y =
       y0 = min (b .y0) y;
       x1 = max (b .x1) x;
       y1 = max (b .y1) y;
+      outline = b .outline + s;
     }
 
 -- the record as it runs, and the most pixels that have waited
@@ -74,7 +76,7 @@ flooding s k b d = record { seen = s; waiting = k; blob = b; waited = d }
 -- no pixel counted; the box starts at the pixel a (in the Rust at the ends of the number range: after a's own turn
 -- the two are equal)
 unfoldable pub noBlob : ℕ → ℕ → Blob
-noBlob w a = record { area = 0; sx = 0; sy = 0; x0 = a % w; y0 = a / w; x1 = a % w; y1 = a / w }
+noBlob w a = record { area = 0; sx = 0; sy = 0; x0 = a % w; y0 = a / w; x1 = a % w; y1 = a / w; outline = 0 }
 
 -- the pixel a is marked, and waits alone
 unfoldable pub begun : ℕ → ℕ → List ℕ → Flooding
@@ -85,7 +87,8 @@ unfoldable pub take : List ℕ → ℕ → Flooding → List ℕ → Flooding
 take m w f [] = f
 take m w f (p ∷ k) =
     let a = spread m w p (marking (f .seen) k) in
-    flooding (a .seen) (a .waiting) (grow (f .blob) (p % w) (p / w)) (max (f .waited) (length (a .waiting)))
+    flooding (a .seen) (a .waiting) (grow (f .blob) (p % w) (p / w) (sides m w p)) (max (f .waited)
+    (length (a .waiting)))
 
 unfoldable pub floodStep : List ℕ → ℕ → ℕ → Flooding → Flooding
 floodStep m w i f = take m w f (f .waiting)

@@ -10,6 +10,7 @@ ghost use Rattle.blobs.specs.Ready.{Ready, Sized};
 ghost use Rattle.blobs.specs.Areas.{patchAreas};
 ghost use Rattle.blobs.specs.Labels.{Labels};
 use super::Blob;
+use super::outline::sides;
 pub use super::patch::blob_at;
 use super::patch::grow;
 use super::patch::no_blob;
@@ -46,7 +47,8 @@ fn flood(mask: &[u8], seen: &mut [u8], waiting: &mut [u32], w: usize, a: usize) 
         let p = waiting[low] as usize;
         let x = p % w;
         let y = p / w;
-        blob = grow(blob, x as u64, y as u64);
+        let s = sides(mask, w, p, x);
+        blob = grow(blob, x as u64, y as u64, s);
         top = spread(mask, seen, waiting, low, w, p, x);
         waited = max(waited, top);
     }

@@ -1,5 +1,6 @@
 // Patches of dark pixels.
 pub mod internal; // internal.rt: labelling without the tests, for the layers above
+mod outline;
 mod patch;
 mod visit;
 
@@ -9,7 +10,7 @@ ghost use Rattle.frame.specs.Refusals.{lowestOf};
 ghost use Rattle.blobs.specs.Areas.{patchAreas};
 ghost use Rattle.blobs.specs.Contracts.{patchTests, Labelling};
 
-// The record of a patch (requirements, 7.3).
+// The record of a patch (requirements, 7.3 and 24).
 pub struct Blob {
     pub area: u64,
     pub sx: u64,
@@ -18,7 +19,11 @@ pub struct Blob {
     pub y0: u64,
     pub x1: u64,
     pub y1: u64,
+    pub outline: u64,
 }
+
+// So many numbers a record has in the flat list.
+pub const RECORD_LENGTH: usize = 8;
 
 // How many patches there are, and the most pixels that waited; both 0 where it is refused.
 pub struct LabelAnswer {
@@ -44,14 +49,14 @@ fn refusal(w: usize, h: usize, mask: usize, seen: usize, waiting: usize, patches
     if waiting < n {
         return 3;
     }
-    if patches < 7 * ((n + 1) / 2) {
+    if patches < RECORD_LENGTH * ((n + 1) / 2) {
         return 3;
     }
     0
 }
 
 // Labels the patches of a mask of w by h pixels, a byte a pixel: any nonzero byte is dark. Marks
-// go to `seen`, records of seven numbers to `patches`; `waiting` is work space.
+// go to `seen`, records of RECORD_LENGTH numbers to `patches`; `waiting` is work space.
 pub fn label_blobs(
     mask: &[u8],
     w: usize,

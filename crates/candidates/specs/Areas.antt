@@ -23,7 +23,7 @@ pub record Areas : Type 0 where
   -- the visited marks
   pub seen : List ℕ
   pub waiting : List ℕ
-  -- seven numbers a record
+  -- recordLength numbers a record
   pub patches : List ℕ
   -- four floats a record, and the patch's place beside them
   pub candidates : List Float

@@ -25,7 +25,7 @@ pub fn smallest(w: usize, h: usize) -> Lengths
         mask: n,
         seen: n,
         waiting: n,
-        patches: 7 * ((n + 1) / 2),
+        patches: blobs::RECORD_LENGTH * ((n + 1) / 2),
         candidates: 4 * (n / 32),
         blob_index: n / 32,
     }

@@ -53,11 +53,11 @@ accepted = ap (λ z. centersAs z (markerCenters (markers.frame 192 192 1 48))) m
 labelled : (m j : List ℕ) (o : ℕ) (firsts : List ℕ) → PatchList m 3 j j o firsts → Labelled m (table (patchAt j) o)
 labelled m j o firsts p a b n waited h = lists-equal m 3 (h .records) p .2
 
-three : Labelled mask7 (blob 1 0 0 0 0 0 0 ∷ blob 1 2 0 2 0 2 0 ∷ blob 3 2 5 0 1 1 2 ∷ [])
+three : Labelled mask7 (blob 1 0 0 0 0 0 0 4 ∷ blob 1 2 0 2 0 2 0 4 ∷ blob 3 2 5 0 1 1 2 8 ∷ [])
 unfolding table patchAt
 three = labelled mask7 list7 3 (0 ∷ 2 ∷ 4 ∷ []) masks.m7
 
-single : Labelled mask8 (blob 7 7 8 0 0 2 2 ∷ [])
+single : Labelled mask8 (blob 7 7 8 0 0 2 2 16 ∷ [])
 unfolding table patchAt
 single = labelled mask8 list8 1 (0 ∷ []) masks.m8-list
 

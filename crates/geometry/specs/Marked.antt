@@ -42,22 +42,24 @@ mask7 = 1 ∷ 0 ∷ 1 ∷ 0 ∷ 1 ∷ 0 ∷ 1 ∷ 1 ∷ 0 ∷ []
 
 -- .. and its records as `patches` prints them
 abbrev pub list7 : List ℕ
-list7 = 1 ∷ 0 ∷ 0 ∷ 0 ∷ 0 ∷ 0 ∷ 0 ∷ 1 ∷ 2 ∷ 0 ∷ 2 ∷ 0 ∷ 2 ∷ 0 ∷ 3 ∷ 2 ∷ 5 ∷ 0 ∷ 1 ∷ 1 ∷ 2 ∷ []
+list7 =
+    1 ∷ 0 ∷ 0 ∷ 0 ∷ 0 ∷ 0 ∷ 0 ∷ 4 ∷ 1 ∷ 2 ∷ 0 ∷ 2 ∷ 0 ∷ 2 ∷ 0 ∷ 4 ∷ 3 ∷ 2 ∷ 5 ∷ 0 ∷ 1 ∷ 1 ∷ 2 ∷ 8 ∷ []
 
 -- `#.#`, `#.#`, `###`
 abbrev pub mask8 : List ℕ
 mask8 = 1 ∷ 0 ∷ 1 ∷ 1 ∷ 0 ∷ 1 ∷ 1 ∷ 1 ∷ 1 ∷ []
 
 abbrev pub list8 : List ℕ
-list8 = 7 ∷ 7 ∷ 8 ∷ 0 ∷ 0 ∷ 2 ∷ 2 ∷ []
+list8 = 7 ∷ 7 ∷ 8 ∷ 0 ∷ 0 ∷ 2 ∷ 2 ∷ 16 ∷ []
 
 -- what `label_blobs` leaves of a mask m, three by three: just these records, whatever the areas held
 abbrev pub Labelled : List ℕ → List Blob → Type 0
 Labelled m blobs =
     (a b : PatchAreas) (n waited : ℕ) → Labels m 3 3 a b n waited → table (patchAt (b .patches)) n ≡ blobs
 
-abbrev pub blob : ℕ → ℕ → ℕ → ℕ → ℕ → ℕ → ℕ → Blob
-blob area sx sy x0 y0 x1 y1 = record { area = area; sx = sx; sy = sy; x0 = x0; y0 = y0; x1 = x1; y1 = y1 }
+abbrev pub blob : ℕ → ℕ → ℕ → ℕ → ℕ → ℕ → ℕ → ℕ → Blob
+blob area sx sy x0 y0 x1 y1 outline =
+    record { area = area; sx = sx; sy = sy; x0 = x0; y0 = y0; x1 = x1; y1 = y1; outline = outline }
 
 -- of the probes made, so many agreed
 abbrev pub Agreed : ℕ → ℕ → Tally → Type 0
@@ -92,11 +94,12 @@ pub record Marked : Type 0 where
   -- M5 margin 47, M6 width 191: refusal 5
   pub m5 : centers (frame 192 192 1 47) ≡ Refused 5
   pub m6 : centers (frame 191 192 1 48) ≡ Refused 5
-  -- M7 the mask of [15.2]: its list, by the meaning of a patch, with the first pixels 0, 2 and 4, and no other
-  pub m7 : PatchList mask7 3 list7 list7 3 (0 ∷ 2 ∷ 4 ∷ []) × Labelled mask7 (blob 1 0 0 0 0 0 0 ∷ blob 1 2 0 2 0 2 0
-      ∷ blob 3 2 5 0 1 1 2 ∷ [])
-  -- M8 `#.#`, `#.#`, `###`: one record 7 7 8 0 0 2 2
-  pub m8 : PatchList mask8 3 list8 list8 1 (0 ∷ []) × Labelled mask8 (blob 7 7 8 0 0 2 2 ∷ [])
+  -- M7 the mask of [15.2]: its list, by the meaning of a patch, with the first pixels 0, 2 and 4, and no other; [24.4]
+  -- "the lines end in 4, 4 and 8"
+  pub m7 : PatchList mask7 3 list7 list7 3 (0 ∷ 2 ∷ 4 ∷ []) × Labelled mask7 (blob 1 0 0 0 0 0 0 4
+      ∷ blob 1 2 0 2 0 2 0 4 ∷ blob 3 2 5 0 1 1 2 8 ∷ [])
+  -- M8 `#.#`, `#.#`, `###`: one record 7 7 8 0 0 2 2; [24.4] "M8's record ends in 16"
+  pub m8 : PatchList mask8 3 list8 list8 1 (0 ∷ []) × Labelled mask8 (blob 7 7 8 0 0 2 2 16 ∷ [])
   -- M9 14 of 17 probes pass, 13 do not
   pub m9 :
       ((s : Tally) → Agreed 14 17 s → Apart s → enough (shareOf s) ≡ true)

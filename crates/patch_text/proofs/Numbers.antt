@@ -132,11 +132,11 @@ pub written-none : (o : List ℕ) (at : ℕ) (f : ℕ → Blob) → Written o o 
 unfolding recordLines table
 written-none o at f = record { text = sym (append-nil (take at o)); from = omega arith; to = omega arith }
 
-pub written-line : (o o₁ o₂ : List ℕ) (at r s j : ℕ) (f : ℕ → Blob) (b : Blob) → b ≡ f j → Written o o₁ at r (147 * j) (recordLines
-    (table f j)) → Written o₁ o₂ r s 147 (recordLine b)
-    → Written o o₂ at s (147 * (j + 1)) (recordLines (table f (j + 1)))
+pub written-line : (o o₁ o₂ : List ℕ) (at r s j : ℕ) (f : ℕ → Blob) (b : Blob) → b ≡ f j → Written o o₁ at r (168 * j) (recordLines
+    (table f j)) → Written o₁ o₂ r s 168 (recordLine b)
+    → Written o o₂ at s (168 * (j + 1)) (recordLines (table f (j + 1)))
 written-line o o₁ o₂ at r s j f b e a c =
-    let w = written-more o o₁ o₂ at r s (147 * j) 147 (recordLines (table f j)) (recordLine b) a c in
+    let w = written-more o o₁ o₂ at r s (168 * j) 168 (recordLines (table f j)) (recordLine b) a c in
     let t : recordLines (table f j) ++ recordLine b ≡ recordLines (table f (j + 1)) =
     ap (λ x. recordLines (table f j) ++ recordLine x) e ∙ sym (lines-more (table f j) (f j)) ∙ ap recordLines (sym (table-more f j) ∙ ap (table f) (sym (add-one j))) in
     record { text = w .text ∙ ap (λ x. take at o ++ x) t; from = w .from; to = omega (arith, w .to) }
@@ -144,10 +144,10 @@ written-line o o₁ o₂ at r s j f b e a c =
 -- ---- the whole list
 pub listed-text : (o o₁ o₂ o₃ o₄ : List ℕ) (e₀ e₁ e₂ r w h n : ℕ) (f : ℕ → Blob) → Written o o₁ 0 e₀ 21 (field w blank)
     → Written o₁ o₂ e₀ e₁ 21 (field h blank) → Written o₂ o₃ e₁ e₂ 21 (field n feed)
-    → Written o₃ o₄ e₂ r (147 * n) (recordLines (table f n)) → take r o₄ ≡ patchText w h (table f n)
+    → Written o₃ o₄ e₂ r (168 * n) (recordLines (table f n)) → take r o₄ ≡ patchText w h (table f n)
 unfolding patchText
 listed-text o o₁ o₂ o₃ o₄ e₀ e₁ e₂ r w h n f a b c d =
     let x = written-more o o₁ o₂ 0 e₀ e₁ 21 21 (field w blank) (field h blank) a b in
     let y = written-more o o₂ o₃ 0 e₁ e₂ 42 21 (field w blank ++ field h blank) (field n feed) x c in
-    let z = written-more o o₃ o₄ 0 e₂ r 63 (147 * n) (field w blank ++ field h blank ++ field n feed) (recordLines (table f n)) y d in
+    let z = written-more o o₃ o₄ 0 e₂ r 63 (168 * n) (field w blank ++ field h blank ++ field n feed) (recordLines (table f n)) y d in
     z .text ∙ ap (λ k. field w blank ++ field h blank ++ field k feed ++ recordLines (table f n)) (sym (length-table f n))

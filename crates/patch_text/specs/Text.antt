@@ -64,11 +64,12 @@ field n after = decimal n ++ (after ∷ [])
 
 -- ---- [7.6] width, height, number of patches, then one record a line; [7.7] each printed line ends in a line feed
 
--- [7.3] area, sum of x, sum of y and the box x0, y0, x1, y1
+-- [7.3] area, sum of x, sum of y and the box x0, y0, x1, y1; [24.3] the record "ends with this eighth number", the
+-- outline
 unfoldable pub recordLine : Blob → List ℕ
 recordLine b =
     field (b .area) blank ++ field (b .sx) blank ++ field (b .sy) blank ++ field (b .x0) blank ++ field (b .y0) blank
-    ++ field (b .x1) blank ++ field (b .y1) feed
+    ++ field (b .x1) blank ++ field (b .y1) blank ++ field (b .outline) feed
 
 unfoldable pub recordLines : List Blob → List ℕ
 recordLines [] = []

@@ -14,7 +14,7 @@ ghost use Rattle.patch_text.specs.Text.{Answered, AnsweredWhole};
 pub const INPUT_LENGTH: usize = 64 * 65 + 1;
 // The longest answer: three numbers and a record for every other pixel of the largest mask, each
 // number at most 20 digits and the letter after it.
-pub const OUTPUT_LENGTH: usize = 3 * 21 + 2048 * 147;
+pub const OUTPUT_LENGTH: usize = 3 * 21 + 2048 * 168;
 
 // Puts at the start of `out` what a program prints for its input, and answers how many bytes that
 // is. The program has read `n` bytes of the input into the start of `input`: as many as fit, or
@@ -27,7 +27,7 @@ pub fn answer(input: &[u8; INPUT_LENGTH], n: usize, out: &mut [u8; OUTPUT_LENGTH
     let mut mask = [0u8; 4096];
     let mut seen = [0u8; 4096];
     let mut waiting = [0u32; 4096];
-    let mut patches = [0u64; 14336];
+    let mut patches = [0u64; 16384];
     let all = &input[..];
     answer_text(
         &all[..n],
@@ -49,7 +49,7 @@ fn answer_text(
     out: &mut [u8],
 ) -> usize
     requires { ⌜ (4096 ≤ length (now mask)) × (4096 ≤ length (now seen)) × (4096 ≤ length (now waiting)) ×
-        (14336 ≤ length (now patches)) × (301119 ≤ length (now out)) ⌝ }
+        (16384 ≤ length (now patches)) × (344127 ≤ length (now out)) ⌝ }
     ensures { λ r. ⌜ Answered (now (text .entry)) (take r (now (out .exit))) ⌝ }
     ensures { λ r. ⌜ (r ≤ length (now (out .exit))) × (r ≡ length (take r (now (out .exit)))) ⌝ }
 {

@@ -54,8 +54,8 @@ fn put(out: &mut [u8], at: usize, n: u64, after: u8) -> usize
 
 // Writes a record's line.
 fn put_record(out: &mut [u8], at: usize, b: Blob) -> usize
-    requires { ⌜ at + 147 ≤ length (now out) ⌝ }
-    ensures { λ r. ⌜ Written (now (out .entry)) (now (out .exit)) at r 147 (recordLine b) ⌝ }
+    requires { ⌜ at + 168 ≤ length (now out) ⌝ }
+    ensures { λ r. ⌜ Written (now (out .entry)) (now (out .exit)) at r 168 (recordLine b) ⌝ }
 {
     let e0 = put(out, at, b.area, b' ');
     let e1 = put(out, e0, b.sx, b' ');
@@ -63,13 +63,14 @@ fn put_record(out: &mut [u8], at: usize, b: Blob) -> usize
     let e3 = put(out, e2, b.x0, b' ');
     let e4 = put(out, e3, b.y0, b' ');
     let e5 = put(out, e4, b.x1, b' ');
-    put(out, e5, b.y1, b'\n')
+    let e6 = put(out, e5, b.y1, b' ');
+    put(out, e6, b.outline, b'\n')
 }
 
 // Writes the first n records' lines.
 fn put_records(out: &mut [u8], at: usize, patches: &[u64], n: usize) -> usize
-    requires { ⌜ (at + 147 * n ≤ length (now out)) × (recordLength * n ≤ length (now patches)) ⌝ }
-    ensures { λ r. ⌜ Written (now (out .entry)) (now (out .exit)) at r (147 * n)
+    requires { ⌜ (at + 168 * n ≤ length (now out)) × (recordLength * n ≤ length (now patches)) ⌝ }
+    ensures { λ r. ⌜ Written (now (out .entry)) (now (out .exit)) at r (168 * n)
         (recordLines (table (patchAt (now (patches .entry))) n)) ⌝ }
 {
     let mut end = at;
@@ -84,7 +85,7 @@ fn put_records(out: &mut [u8], at: usize, patches: &[u64], n: usize) -> usize
 
 // Writes the list of n patches of a mask w by h.
 pub fn list(w: u64, h: u64, patches: &[u64], n: usize, out: &mut [u8]) -> usize
-    requires { ⌜ (63 + 147 * n ≤ length (now out)) × (recordLength * n ≤ length (now patches)) ⌝ }
+    requires { ⌜ (63 + 168 * n ≤ length (now out)) × (recordLength * n ≤ length (now patches)) ⌝ }
     ensures { λ r. ⌜ (take r (now (out .exit)) ≡ patchText w h (table (patchAt (now (patches .entry))) n)) ×
         (r ≤ length (now (out .exit))) ⌝ }
 {

@@ -8,7 +8,7 @@ use Rattle.candidates.specs.declared.Candidate.{Candidate}
 
 -- what stands for a record that a list does not have
 abbrev pub noPatch : Blob
-noPatch = record { area = 0; sx = 0; sy = 0; x0 = 0; y0 = 0; x1 = 0; y1 = 0 }
+noPatch = record { area = 0; sx = 0; sy = 0; x0 = 0; y0 = 0; x1 = 0; y1 = 0; outline = 0 }
 
 abbrev pub noCandidate : Candidate
 noCandidate = record { center = record { x = f64 0; y = f64 0 }; score = f64 0; size = f64 0; «blob_index» = 0 }

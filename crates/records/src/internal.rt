@@ -1,7 +1,7 @@
 // Store and fetch of one record in a lent slice of records. The borrow checker covers no function
 // over such a slice, so each is thin, and proved by a walk.
 ghost use mathlib.Core.Path.{_≡_};
-ghost use Prim.Native.Nat.{_+_, _*_, _<_};
+ghost use Prim.Native.Nat.{_+_, _*_, _≤_, _<_};
 ghost use lib.ListN.{length, set};
 ghost use Rattle.blobs.specs.Patches.{recordLength, patchAt};
 ghost use Rattle.candidates.specs.Ring.{candidateAt};
@@ -11,7 +11,7 @@ use candidates::Candidate;
 
 // Record j of the flat patch list, stored as record j of the slice.
 pub fn store_patch(records: &mut [Blob], patches: &[u64], j: usize)
-    requires { ⌜ (j < length (now records)) × (recordLength * j + 6 < length (now patches)) ⌝ }
+    requires { ⌜ (j < length (now records)) × (recordLength * (j + 1) ≤ length (now patches)) ⌝ }
     ensures { λ _. ⌜ now (records .exit) ≡ set (now (records .entry)) j (patchAt (now (patches .entry)) j) ⌝ }
 {
     records[j] = blobs::internal::blob_at(patches, j);

@@ -139,7 +139,7 @@ fn find_candidates(capture: &[u8], w: usize, h: usize, frame: FrameSpec) {
     let mut mask = [7u8; 9216];
     let mut seen = [7u8; 9216];
     let mut waiting = [7u32; 9216];
-    let mut patches = [7u64; 32256];
+    let mut patches = [7u64; 36864];
     let mut records = [1.0; 1152];
     let mut blob_index = [7u32; 288];
     let r = fiducial_candidates(
@@ -192,7 +192,7 @@ fn find_corners(capture: &[u8], w: usize, h: usize, frame: FrameSpec) {
     let mut mask = [7u8; 9216];
     let mut seen = [7u8; 9216];
     let mut waiting = [7u32; 9216];
-    let mut patches = [7u64; 32256];
+    let mut patches = [7u64; 36864];
     let mut records = [1.0; 1152];
     let mut blob_index = [7u32; 288];
     let r = detect_fiducials(

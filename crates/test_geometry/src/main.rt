@@ -29,7 +29,7 @@ fn answer_all(count: usize) {
     let mut mask = [0u8; 40000];
     let mut seen = [0u8; 40000];
     let mut waiting = [0u32; 40000];
-    let mut patches = [0u64; 140000];
+    let mut patches = [0u64; 160000];
     let mut candidates = [0.0; 5000];
     let mut blob_index = [0u32; 1250];
     let mut means = [0.0; 2048];
@@ -64,7 +64,7 @@ fn answer(
     mask: &mut [u8; 40000],
     seen: &mut [u8; 40000],
     waiting: &mut [u32; 40000],
-    patches: &mut [u64; 140000],
+    patches: &mut [u64; 160000],
     candidates: &mut [f64; 5000],
     blob_index: &mut [u32; 1250],
     means: &mut [f64; 2048],

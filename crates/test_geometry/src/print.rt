@@ -1,6 +1,7 @@
 // An answer's lines, on standard output.
 use crate::file::Sizes;
 use base::min;
+use blobs::RECORD_LENGTH;
 use fit::GeometryFit;
 use fit::Grade;
 use fit_geometry::PictureFit;
@@ -104,7 +105,7 @@ fn first(word: &[u8], b: &[u8], n: usize) {
 
 // The n patches and the k candidates.
 fn lists(patches: &[u64], n: usize, candidates: &[f64], blob_index: &[u32], k: usize) {
-    let end = 7 * min(n, patches.len() / 7);
+    let end = RECORD_LENGTH * min(n, patches.len() / RECORD_LENGTH);
     let records = [n as u64, vectors::sum::of_numbers(&patches[..end])];
     line(b"patches", &records);
     let count = [k as u64];

@@ -35,7 +35,7 @@ fn main() {
 fn label(mask: &[u8]) {
     let mut seen = [0u8; 9];
     let mut waiting = [0u32; 9];
-    let mut patches = [0u64; 35];
+    let mut patches = [0u64; 40];
     let l = blobs::label_blobs(mask, 3, 3, &mut seen, &mut waiting, &mut patches);
     let verdict = l.verdict;
     match verdict {
@@ -66,7 +66,7 @@ fn find(capture: &[u8]) {
     let mut mask = [0u8; 4096];
     let mut seen = [0u8; 4096];
     let mut waiting = [0u32; 4096];
-    let mut patches = [0u64; 14336];
+    let mut patches = [0u64; 16384];
     let mut candidates = [0.0; 512];
     let mut blob_index = [0u32; 128];
     let l = candidates::fiducial_candidates(
@@ -94,7 +94,7 @@ fn find(capture: &[u8]) {
 // functions lend them, so only they are proved by a walk.
 
 fn stored_patch(list: [Blob; 5], patches: &[u64], j: usize) -> [Blob; 5]
-    requires { ⌜ (j < 5) × (recordLength * j + 6 < length (now patches)) ⌝ }
+    requires { ⌜ (j < 5) × (recordLength * (j + 1) ≤ length (now patches)) ⌝ }
     ensures { λ r. ⌜ r ≡ set list j (patchAt (now (patches .entry)) j) ⌝ }
 {
     let mut r = list;
@@ -132,7 +132,7 @@ fn fetched_candidate(list: [Candidate; 5], i: usize) -> Candidate
 
 // The first n records of the flat list, each in its place.
 fn keep_patches(patches: &[u64], n: usize) -> [Blob; 5]
-    requires { ⌜ (n ≤ 5) × (35 ≤ length (now patches)) ⌝ }
+    requires { ⌜ (n ≤ 5) × (40 ≤ length (now patches)) ⌝ }
     ensures { λ r. ⌜ r ≡ filled (patchAt (now (patches .entry))) n (replicate 5 noPatch) ⌝ }
 {
     let none = Blob {
@@ -143,6 +143,7 @@ fn keep_patches(patches: &[u64], n: usize) -> [Blob; 5]
         y0: 0,
         x1: 0,
         y1: 0,
+        outline: 0,
     };
     let mut list = [none; 5];
     for j in 0..n {
@@ -193,7 +194,7 @@ fn float(x: f64) {
 }
 
 fn print_patches(patches: &[u64], n: usize)
-    requires { ⌜ 35 ≤ length (now patches) ⌝ }
+    requires { ⌜ 40 ≤ length (now patches) ⌝ }
 {
     text(b"3 3 ");
     number(n as u64);
@@ -202,7 +203,7 @@ fn print_patches(patches: &[u64], n: usize)
 }
 
 fn fetch_patches(patches: &[u64], n: usize)
-    requires { ⌜ (n ≤ 5) × (35 ≤ length (now patches)) ⌝ }
+    requires { ⌜ (n ≤ 5) × (40 ≤ length (now patches)) ⌝ }
 {
     let list = keep_patches(patches, n);
     for j in 0..n {
@@ -218,6 +219,7 @@ fn print_patch(b: Blob) {
     spaced(b.y0);
     spaced(b.x1);
     spaced(b.y1);
+    spaced(b.outline);
     text(b"\n");
 }
 

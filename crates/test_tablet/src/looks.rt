@@ -14,7 +14,7 @@ pub(crate) fn rectify(capture: &[u8; 43008]) {
     let mut mask = [9u8; 14336];
     let mut seen = [9u8; 14340];
     let mut waiting = [9u32; 14341];
-    let mut patches = [9u64; 50182];
+    let mut patches = [9u64; 57350];
     let mut candidates = [0.0; 1799];
     let mut blob_index = [9u32; 456];
     let mut means = [0.0; 29];
@@ -64,7 +64,7 @@ pub(crate) fn fit_geometry(capture: &[u8; 43008]) {
     let mut mask = [9u8; 14336];
     let mut seen = [9u8; 14340];
     let mut waiting = [9u32; 14341];
-    let mut patches = [9u64; 50182];
+    let mut patches = [9u64; 57350];
     let mut candidates = [0.0; 1799];
     let mut blob_index = [9u32; 456];
     let mut means = [0.0; 29];
@@ -111,7 +111,7 @@ pub(crate) fn detect_fiducials(capture: &[u8; 43008]) -> [f64; 8] {
     let mut mask = [9u8; 14336];
     let mut seen = [9u8; 14340];
     let mut waiting = [9u32; 14341];
-    let mut patches = [9u64; 50182];
+    let mut patches = [9u64; 57350];
     let mut candidates = [0.0; 1799];
     let mut blob_index = [9u32; 456];
     let mut counts = [9u64; 7];
@@ -157,7 +157,7 @@ pub(crate) fn fiducial_candidates(capture: &[u8; 43008]) {
     let mut mask = [9u8; 14336];
     let mut seen = [9u8; 14340];
     let mut waiting = [9u32; 14341];
-    let mut patches = [9u64; 50182];
+    let mut patches = [9u64; 57350];
     let mut candidates = [0.0; 1799];
     let mut blob_index = [9u32; 456];
     let mut counts = [9u64; 3];
@@ -198,7 +198,7 @@ pub(crate) fn fiducial_candidates(capture: &[u8; 43008]) {
 fn label_blobs(mask: &[u8; 14336]) {
     let mut seen = [9u8; 14340];
     let mut waiting = [9u32; 14341];
-    let mut patches = [9u64; 50182];
+    let mut patches = [9u64; 57350];
     let mut counts = [9u64; 2];
     let r = tablet::tablet_label_blobs(
         mask,
@@ -212,7 +212,7 @@ fn label_blobs(mask: &[u8; 14336]) {
     word(r as u64);
     words(&counts, 0, 1);
     bytes(&seen, 112);
-    words(&patches, 0, 14);
+    words(&patches, 0, 16);
 }
 
 // The page of the candidates that the call before left, in an area that is longer.
@@ -228,7 +228,7 @@ fn looked(
     integral: &[f64; 14579],
     mask: &[u8; 14336],
     seen: &[u8; 14340],
-    patches: &[u64; 50182],
+    patches: &[u64; 57350],
     candidates: &[f64; 1799],
     blob_index: &[u32; 456],
 ) {
@@ -236,7 +236,7 @@ fn looked(
     floats(integral, 14575, 14577);
     bytes(mask, 112);
     bytes(seen, 112);
-    words(patches, 0, 14);
+    words(patches, 0, 16);
     floats(candidates, 0, 16);
     shorts(blob_index, 0, 4);
 }

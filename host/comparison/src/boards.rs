@@ -1,10 +1,8 @@
 //! The checkerboard, which the original does not have, against its formula; and its patches, which the library and the original list.
 
 use crate::original;
-use flatten::ffi;
+use flatten::ffi::{self, PATCH_LEN};
 use scene::Random;
-
-const RECORD: usize = 7;
 
 /// Calls at the limits: most patches, a line, a column, and both sides odd.
 pub const LIMITS: [[u64; 3]; 4] = [[4096, 4096, 0], [4096, 1, 0], [1, 4096, 0], [4095, 4095, 0]];
@@ -43,9 +41,9 @@ pub fn check_words(words: &[u64]) -> Result<(), String> {
 fn listed(w: usize, h: usize, mask: &[u8]) -> Result<(), String> {
     let most = (w * h).div_ceil(2);
     let (mut seen, mut waiting, mut counts) = (vec![9; w * h], vec![9; w * h], [9; ffi::LABELLED_LEN]);
-    let mut patches = vec![9; RECORD * most];
+    let mut patches = vec![9; PATCH_LEN * most];
     let mut label = |patches: &mut [u64]| (ffi::label_blobs(mask, w, h, &mut seen, &mut waiting, patches, &mut counts), counts);
-    let (number, _) = label(&mut patches[..RECORD * most - 1]);
+    let (number, _) = label(&mut patches[..PATCH_LEN * most - 1]);
     if number != 3 || patches.iter().any(|&n| n != 9) {
         return Err(format!("with a number less for patch records: refusal {number}, or they were touched"));
     }
@@ -53,12 +51,12 @@ fn listed(w: usize, h: usize, mask: &[u8]) -> Result<(), String> {
     if (number, count) != (0, most as u64) {
         return Err(format!("refusal {number}, {count} patches, they are {most}"));
     }
-    let theirs = original::patches(mask, w, h);
+    let theirs = original::records(mask, w, h);
     if theirs.len() != most {
         return Err(format!("the original has {} patches, they are {most}", theirs.len()));
     }
-    match patches.chunks_exact(RECORD).zip(&theirs).position(|(a, b)| a != b) {
+    match patches.chunks_exact(PATCH_LEN).zip(&theirs).position(|(a, b)| a != b) {
         None => Ok(()),
-        Some(i) => Err(format!("patch {i}: {:?}, the original has {:?}", &patches[RECORD * i..][..RECORD], theirs[i])),
+        Some(i) => Err(format!("patch {i}: {:?}, the original has {:?}", &patches[PATCH_LEN * i..][..PATCH_LEN], theirs[i])),
     }
 }

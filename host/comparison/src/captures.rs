@@ -1,7 +1,7 @@
 //! One capture on both sides: all that demand 2 names, planes and lists too.
 
 use crate::direct::graded;
-use crate::original::{self as o, Answer, Flat};
+use crate::original::{self as o, Answer, Flat, Record};
 use crate::{bits, pages, Case, Memory};
 use flatten::ffi;
 use std::fmt::Debug;
@@ -39,9 +39,9 @@ fn looked(m: &Memory, counts: &[u64], a: &Answer) -> Result<(), String> {
     pages::check(&m.candidates, k, 37 * k + 1).map_err(|e| format!("candidate_page: {e}"))
 }
 
-fn listed(ours: &[u64], count: u64, waited: u64, theirs: &[[u64; 7]]) -> Result<(), String> {
+fn listed(ours: &[u64], count: u64, waited: u64, theirs: &[Record]) -> Result<(), String> {
     eq("number of patches", count as usize, theirs.len())?;
-    each("patches", &ours[..7 * theirs.len()], theirs.as_flattened(), |n| n)?;
+    each("patches", &ours[..ffi::PATCH_LEN * theirs.len()], theirs.as_flattened(), |n| n)?;
     let largest = theirs.iter().map(|p| p[0]).max().unwrap_or(0);
     if waited > largest || (waited == 0) != theirs.is_empty() {
         return Err(format!("{waited} waited, and the largest area is {largest}"));

@@ -149,7 +149,7 @@ fn lowest(c: &Call, seen: Numbers) -> u32 {
         || m.mask.len() < s.pixels
         || m.seen.len() < s.pixels
         || m.waiting.len() < s.pixels
-        || m.patches.len() < 7 * s.patches
+        || m.patches.len() < ffi::PATCH_LEN * s.patches
         || m.candidates.len() < 4 * s.candidates
         || m.blob_index.len() < s.candidates;
     let means_short = m.means.len() < s.means;
@@ -186,7 +186,7 @@ fn lowest(c: &Call, seen: Numbers) -> u32 {
         Function::FiducialCandidates => vec![(2, capture_bad), (3, look_short || counts < 3), (5, no_layout), (6, tiny)],
         Function::LabelBlobs => vec![
             (2, m.mask.len() != s.pixels),
-            (3, m.seen.len() < s.pixels || m.waiting.len() < s.pixels || m.patches.len() < 7 * s.patches || counts < 2),
+            (3, m.seen.len() < s.pixels || m.waiting.len() < s.pixels || m.patches.len() < ffi::PATCH_LEN * s.patches || counts < 2),
         ],
         Function::Checkerboard => vec![(3, m.mask.len() < s.pixels)],
         Function::GridScore => vec![(2, capture_bad), (3, given < 13 || means_short || counts < 2 || numbers < 1)],
@@ -345,7 +345,7 @@ fn call(r: &mut Random, pool: &Pool) -> (Call, Numbers) {
         mask: vec![0; mask_len],
         seen: vec![0; length(r, s.pixels, wrong)],
         waiting: vec![0; length(r, s.pixels, wrong)],
-        patches: vec![0; length(r, 7 * s.patches, wrong)],
+        patches: vec![0; length(r, ffi::PATCH_LEN * s.patches, wrong)],
         candidates: vec![0.0; length(r, 4 * s.candidates, wrong)],
         blob_index: vec![0; length(r, s.candidates, wrong)],
         means: vec![0.0; length(r, s.means, wrong)],
@@ -410,7 +410,7 @@ fn shorten(c: &mut Call) {
     m.mask.truncate(s.pixels);
     m.seen.truncate(s.pixels);
     m.waiting.truncate(s.pixels);
-    m.patches.truncate(7 * s.patches);
+    m.patches.truncate(ffi::PATCH_LEN * s.patches);
     m.candidates.truncate(4 * s.candidates);
     m.blob_index.truncate(s.candidates);
     m.means.truncate(s.means);
@@ -457,7 +457,7 @@ fn written(c: &Call, number: u32) -> (Written, [usize; 3], usize) {
         integral: s.integral,
         mask: s.pixels,
         marks: s.pixels,
-        patches: 7 * listed(ffi::PATCHES),
+        patches: ffi::PATCH_LEN * listed(ffi::PATCHES),
         candidates: listed(ffi::CANDIDATES),
         means,
         page: 0,
@@ -468,7 +468,7 @@ fn written(c: &Call, number: u32) -> (Written, [usize; 3], usize) {
         Function::FitGeometry => (look(s.means), [11, accepted(14), 0], 0),
         Function::DetectFiducials => (look(0), [7, accepted(8), 0], 0),
         Function::FiducialCandidates => (look(0), [3, 0, 0], 0),
-        Function::LabelBlobs => (Written { marks: s.pixels, patches: 7 * listed(0), ..nothing }, [2, 0, 0], 0),
+        Function::LabelBlobs => (Written { marks: s.pixels, patches: ffi::PATCH_LEN * listed(0), ..nothing }, [2, 0, 0], 0),
         Function::Checkerboard => (Written { mask: s.pixels, ..nothing }, [0; 3], 0),
         Function::GridScore => (Written { means: s.means, ..nothing }, [2, 1, 0], 0),
         Function::WarpWith | Function::WarpRecord => (nothing, [accepted(1), 0, 0], accepted(s.canonical)),
@@ -547,7 +547,7 @@ fn counted(c: &Call, told: u64, fit: &[f64]) -> Result<(), String> {
 }
 
 /// What an accepted call wrote: of Rectify and the warps the pixels beyond the edge, of Bilinear whether its place is inside, of
-/// Checkerboard, Lengths and CandidatePage all.
+/// LabelBlobs the records, of Checkerboard, Lengths and CandidatePage all.
 fn answered(c: &Call) -> Result<(), String> {
     match c.function {
         Function::Rectify => counted(c, c.counts[ffi::BEYOND], &c.numbers)?,
@@ -556,6 +556,16 @@ fn answered(c: &Call) -> Result<(), String> {
             let inside = original::inside(PLACE, c.case.w, c.case.h);
             if c.colour[3] != u8::from(inside) {
                 return Err(format!("inside is {}, it is {inside}", c.colour[3]));
+            }
+        }
+        Function::LabelBlobs => {
+            let records = original::records(&c.memory.mask, c.case.w, c.case.h);
+            let ours: Vec<&[u64]> = c.memory.patches.chunks_exact(ffi::PATCH_LEN).take(c.counts[0] as usize).collect();
+            if ours.len() != records.len() {
+                return Err(format!("{} patches, they are {}", ours.len(), records.len()));
+            }
+            if let Some(j) = (0..ours.len()).find(|&j| ours[j] != records[j]) {
+                return Err(format!("patch {j}: {:?}, it is {:?}", ours[j], records[j]));
             }
         }
         Function::Checkerboard => {
@@ -567,7 +577,7 @@ fn answered(c: &Call) -> Result<(), String> {
         Function::Lengths => {
             let s = sizes(c.case.w, c.case.h, c.case.frame);
             let n = s.pixels;
-            let all = [3 * n, n, s.integral, n, n, n, 7 * s.patches, 4 * s.candidates, s.candidates, s.means, s.canonical];
+            let all = [3 * n, n, s.integral, n, n, n, ffi::PATCH_LEN * s.patches, 4 * s.candidates, s.candidates, s.means, s.canonical];
             if c.counts[..11] != all.map(|v| v as u64) {
                 return Err(format!("lengths {:?}, they are {all:?}", &c.counts[..11]));
             }

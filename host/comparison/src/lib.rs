@@ -10,7 +10,7 @@ pub mod luma;
 pub mod original;
 pub mod pages;
 
-use flatten::Frame;
+use flatten::{ffi, Frame};
 use scene::Random;
 
 /// A capture with the frame that it is read by.
@@ -93,7 +93,7 @@ impl Memory {
             mask: vec![0; s.pixels],
             seen: vec![0; s.pixels],
             waiting: vec![0; s.pixels],
-            patches: vec![0; 7 * s.patches],
+            patches: vec![0; ffi::PATCH_LEN * s.patches],
             candidates: vec![0.0; 4 * s.candidates],
             blob_index: vec![0; s.candidates],
             means: vec![0.0; s.means],
@@ -102,8 +102,8 @@ impl Memory {
     }
 
     /// The areas, the means and the card, each lent.
-    pub fn lend(&mut self) -> (flatten::ffi::Areas<'_>, &mut [f64], &mut [u8]) {
-        let areas = flatten::ffi::Areas {
+    pub fn lend(&mut self) -> (ffi::Areas<'_>, &mut [f64], &mut [u8]) {
+        let areas = ffi::Areas {
             luma: &mut self.luma,
             integral: &mut self.integral,
             mask: &mut self.mask,

@@ -1,11 +1,15 @@
 //! The original's answers, with the refusal numbers that docs/REQUIREMENTS.md gives to its `None`s.
 
 use crate::{sampled, Case};
-use flatten::Frame;
+use flatten::{ffi, Frame};
 use lpcore::frame::FrameSpec;
 use lpcore::geometry as g;
 use lpcore::image::RgbImage;
 use lpcorepub::geometry as inner;
+use vectors::patches;
+
+/// A patch: the original's numbers and the outline, which it does not have.
+pub type Record = [u64; ffi::PATCH_LEN];
 
 pub fn spec(f: Frame) -> FrameSpec {
     FrameSpec { width: f.width, height: f.height, cell: f.cell, margin: f.margin }
@@ -41,7 +45,7 @@ pub struct Look {
     pub luma: Vec<f32>,
     pub integral: Vec<f64>,
     pub mask: Vec<u8>,
-    pub patches: Vec<[u64; 7]>,
+    pub patches: Vec<Record>,
     /// Centre x, centre y, score, size.
     pub candidates: Vec<[f64; 4]>,
     pub places: Vec<usize>,
@@ -90,11 +94,6 @@ impl Answer {
     }
 }
 
-pub fn records(blobs: &[inner::Blob]) -> Vec<[u64; 7]> {
-    let each = |b: &inner::Blob| [b.area as u64, b.sx as u64, b.sy as u64, b.x0 as u64, b.y0 as u64, b.x1 as u64, b.y1 as u64];
-    blobs.iter().map(each).collect()
-}
-
 /// The integral image, which the original makes and throws away within its mask.
 fn integral(luma: &[f32], w: usize, h: usize) -> Vec<f64> {
     let mut integral = vec![0f64; (w + 1) * (h + 1)];
@@ -113,9 +112,9 @@ pub fn luma_plane(w: usize, h: usize, data: &[u8]) -> Vec<f32> {
 }
 
 /// The patches of a mask, any nonzero byte dark.
-pub fn patches(mask: &[u8], w: usize, h: usize) -> Vec<[u64; 7]> {
+pub fn records(mask: &[u8], w: usize, h: usize) -> Vec<Record> {
     let dark: Vec<bool> = mask.iter().map(|&b| b != 0).collect();
-    records(&inner::label_blobs(&dark, w, h))
+    patches::records(&dark, w, h)
 }
 
 fn look(case: &Case, img: &RgbImage, marker: f64) -> Look {
@@ -144,7 +143,7 @@ fn look(case: &Case, img: &RgbImage, marker: f64) -> Look {
     Look {
         integral: integral(&luma, w, h),
         mask: mask.iter().map(|&d| d as u8).collect(),
-        patches: records(&blobs),
+        patches: patches::with_outlines(&blobs, &mask, w, h),
         luma,
         candidates,
         places,

@@ -39,6 +39,9 @@ pub const MATRIX_LEN: usize = 9;
 pub const LENS_LEN: usize = 4;
 pub const COLOUR_LEN: usize = 4;
 
+/// A record of patches: area, sum of x, sum of y, x0, y0, x1, y1, outline.
+pub const PATCH_LEN: usize = 8;
+
 /// A line of the candidate page: 36 columns and a line feed.
 pub const PAGE_LINE_LEN: usize = 37;
 

@@ -120,9 +120,11 @@ pub struct Patch {
     pub y0: u64,
     pub x1: u64,
     pub y1: u64,
+    /// How many sides of its pixels face a light pixel or the picture's border, those of a hole too.
+    pub outline: u64,
 }
 
-/// Memory for captures of one size and one frame, about 47 bytes a pixel and the card.
+/// Memory for captures of one size and one frame, about 51 bytes a pixel and the card.
 pub struct Workspace {
     w: usize,
     h: usize,
@@ -290,7 +292,7 @@ impl Workspace {
 
     /// What the last call found; nothing where it did not look.
     pub fn patches(&self) -> impl ExactSizeIterator<Item = Patch> + '_ {
-        self.patches.chunks_exact(7).take(self.count(ffi::PATCHES)).map(|r| Patch {
+        self.patches.chunks_exact(ffi::PATCH_LEN).take(self.count(ffi::PATCHES)).map(|r| Patch {
             area: r[0],
             sum_x: r[1],
             sum_y: r[2],
@@ -298,6 +300,7 @@ impl Workspace {
             y0: r[4],
             x1: r[5],
             y1: r[6],
+            outline: r[7],
         })
     }
 

@@ -101,13 +101,82 @@ fn patches_of_a_mask() {
     ];
     ws.label_blobs(&mask).unwrap();
     let found: Vec<Patch> = ws.patches().collect();
-    let one = |x: u64, y: u64| Patch { area: 1, sum_x: x, sum_y: y, x0: x, y0: y, x1: x, y1: y };
-    let three = Patch { area: 3, sum_x: 1, sum_y: 2, x0: 0, y0: 0, x1: 1, y1: 1 };
+    let one = |x: u64, y: u64| Patch { area: 1, sum_x: x, sum_y: y, x0: x, y0: y, x1: x, y1: y, outline: 4 };
+    let three = Patch { area: 3, sum_x: 1, sum_y: 2, x0: 0, y0: 0, x1: 1, y1: 1, outline: 8 };
     assert_eq!(found, [three, one(4, 0), one(3, 1), one(4, 3)]);
     assert!(ws.candidates().len() == 0 && (1..=3).contains(&ws.waited()));
     // After a refusal there is nothing to read.
     assert_eq!(ws.label_blobs(&mask[1..]).map_err(Refusal::number), Err(2));
     assert_eq!(ws.patches().len(), 0);
+}
+
+/// Outlines, in the order of the patches; the first two masks are M7 and M8 of docs/REQUIREMENTS.md, 24.4.
+#[test]
+fn outlines_of_masks() {
+    let masks: [(&[&str], &[u64]); 13] = [
+        (&["#.#", ".#.", "##."], &[4, 4, 8]),
+        (&["#.#", "#.#", "###"], &[16]),
+        (&["#"], &[4]),
+        (&["."], &[]),
+        (&["##", "##"], &[8]),
+        // a hole has sides too; what stands in it is another patch
+        (&["###", "#.#", "###"], &[16]),
+        (&["#####", "#...#", "#.#.#", "#...#", "#####"], &[32, 4]),
+        // a row's last pixel and the next row's first are no neighbours, nor are pixels that touch at a corner
+        (&["..#", "#.."], &[4, 4]),
+        (&["#.", ".#"], &[4, 4]),
+        (&["####"], &[10]),
+        (&["##.#"], &[6, 4]),
+        (&["#", "#", "#"], &[8]),
+        (&["#", ".", "#", "#"], &[4, 6]),
+    ];
+    for (rows, outlines) in masks {
+        let mask: Vec<u8> = rows.concat().bytes().map(|c| u8::from(c == b'#')).collect();
+        let mut ws = Workspace::new(rows[0].len(), rows.len(), SMALL).unwrap();
+        ws.label_blobs(&mask).unwrap();
+        assert_eq!(ws.patches().map(|p| p.outline).collect::<Vec<_>>(), outlines, "{rows:?}");
+    }
+}
+
+/// The sides of dark pixels that face a light pixel or the picture's border, from the mask alone.
+fn dark_sides(mask: &[u8], w: usize) -> u64 {
+    let dark = |x: usize, y: usize| x < w && y < mask.len() / w && mask[y * w + x] != 0;
+    let facing = |i: usize| {
+        let (x, y) = (i % w, i / w);
+        let around = [(x.wrapping_sub(1), y), (x + 1, y), (x, y.wrapping_sub(1)), (x, y + 1)];
+        around.into_iter().filter(|&(x, y)| !dark(x, y)).count() as u64
+    };
+    (0..mask.len()).filter(|&i| mask[i] != 0).map(facing).sum()
+}
+
+/// Sides of every picture of up to so many pixels.
+fn sides_up_to(pixels: usize) -> impl Iterator<Item = (usize, usize)> {
+    (1..=pixels).flat_map(move |w| (1..=pixels / w).map(move |h| (w, h)))
+}
+
+/// The mask whose pixels are the lowest bits of a number.
+fn mask_of(dark: u32, pixels: usize) -> Vec<u8> {
+    (0..pixels).map(|i| (dark >> i & 1) as u8).collect()
+}
+
+/// Of every mask of up to 12 pixels, and of larger ones from light to dark.
+#[test]
+fn outlines_add_up_to_the_dark_sides() {
+    let check = |ws: &mut Workspace, mask: &[u8]| {
+        ws.label_blobs(mask).unwrap();
+        let (sum, w) = (ws.patches().map(|p| p.outline).sum::<u64>(), ws.width());
+        assert_eq!(sum, dark_sides(mask, w), "{w} by {}: {mask:?}", ws.height());
+    };
+    for (w, h) in sides_up_to(12) {
+        let mut ws = Workspace::new(w, h, SMALL).unwrap();
+        (0..1 << (w * h)).for_each(|dark| check(&mut ws, &mask_of(dark, w * h)));
+    }
+    for (w, h) in [(64, 64), (37, 23), (200, 1), (1, 200)] {
+        let mut ws = Workspace::new(w, h, SMALL).unwrap();
+        for dark in 0..=13 {
+            check(&mut ws, &(0..w * h).map(|i| u8::from((i * i + i / w) % 13 < dark)).collect::<Vec<_>>());
+        }
+    }
 }
 
 /// The checkerboard fills the memory for patches, at sizes with an even and an odd width and with a single line.
@@ -122,13 +191,13 @@ fn most_patches() {
         let last = (w * h - 1) as u64 - u64::from(mask[w * h - 1] == 0);
         let found = ws.patches().last().unwrap();
         assert_eq!((found.area, found.y0 * w as u64 + found.x0), (1, last));
+        assert!(ws.patches().all(|p| p.outline == 4), "{w} by {h}");
     }
     // Every mask of up to 16 pixels: none has more, and some has as many.
-    for (w, h) in (1..=16).flat_map(|w| (1..=16 / w).map(move |h| (w, h))) {
+    for (w, h) in sides_up_to(16) {
         let mut ws = Workspace::new(w, h, SMALL).unwrap();
         let count = |dark: u32| {
-            let mask: Vec<u8> = (0..w * h).map(|i| (dark >> i & 1) as u8).collect();
-            ws.label_blobs(&mask).unwrap();
+            ws.label_blobs(&mask_of(dark, w * h)).unwrap();
             ws.patches().len()
         };
         assert_eq!((0..1 << (w * h)).map(count).max(), Some((w * h).div_ceil(2)), "{w} by {h}");
@@ -177,6 +246,6 @@ fn smallest_lengths() {
     let mut n = [0; ffi::LENGTHS_LEN];
     assert_eq!(ffi::lengths(33, 47, SMALL, &mut n), 0);
     let pixels = 33 * 47;
-    assert_eq!(n, [3 * pixels, pixels, 34 * 48, pixels, pixels, pixels, 7 * 776, 4 * 48, 48, 1024, 3 * 192 * 192]);
+    assert_eq!(n, [3 * pixels, pixels, 34 * 48, pixels, pixels, pixels, 8 * 776, 4 * 48, 48, 1024, 3 * 192 * 192]);
     assert_eq!(ffi::lengths(33, 47, SMALL, &mut n[..10]), 3);
 }

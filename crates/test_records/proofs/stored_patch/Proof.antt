@@ -3,7 +3,7 @@
 -- After the call the lifetime is ended, and the array taken back at the last list that the contract says, and returned.
 -- Assumes nothing.
 use mathlib.Core.Path.{_≡_, refl, sym, subst}
-use Prim.Native.Nat.{ℕ, _+_, _*_, _<_, _^_}
+use Prim.Native.Nat.{ℕ, _+_, _*_, _≤_, _<_, _^_}
 use mathlib.Core.List.{List, [], _∷_}
 use lib.Dec.{lit<}
 use lib.ListN.{length, set}
@@ -120,7 +120,7 @@ module _ {M : Type 1} (𝓤 : URA M) (H : Heap 𝓤) (A : Atoms 𝓤) (W : Given
   abbrev to : Lft → ℕ → GName → Store 𝓤 H A mem run .Ghost
   to α l γ = (((α, (κ, tt)), (fullShare, (q, tt)), tt, (s l γ, (f, (j, tt))), (v l ∷ [], (fv ∷ [], (vint w64 j ∷ [], tt)))), tt)
 
-  asked : (α : Lft) (l : ℕ) (γ : GName) → (j < length xs) × (recordLength * j + 6 < length (f .now))
+  asked : (α : Lft) (l : ℕ) (γ : GName) → (j < length xs) × (recordLength * (j + 1) ≤ length (f .now))
       → ent 𝓤 (⋆ 𝓤 H A ((‵ (flft α fullShare) ⊛ ‵ (flft κ q) ⊛ ‵ ftrue) ∷ ‵ (MutSlice (named 0) α T.the-row .own (s l γ) (v l ∷ [])) ∷ ‵ Own
       ∷ [])) (Store 𝓤 H A mem run .pre (to α l γ))
   asked α l γ held =
@@ -136,7 +136,7 @@ module _ {M : Type 1} (𝓤 : URA M) (H : Heap 𝓤) (A : Atoms 𝓤) (W : Given
       move ! (1 ∷ []) $ frame ! $ move ! (1 ∷ 2 ∷ []) $ fjoin ! $ move ! (2 ∷ 0 ∷ []) $ fjoin ! $ frame ! $ done !
 
   module _ (C : Calls 𝓤 H) (Λ : Loops 𝓤 H) (fm : FmC 𝓤 H (W .laws) C) (known : Triple 𝓤 (C #records·internal·store-patch) (Store 𝓤 H A mem run)) where
-    walk : Is Five xs (five-val xs ∷ []) → Is (ShrSlice (named 0) κ u64) f (fv ∷ []) → length xs ≡ 5 → (j < length xs) × (recordLength * j + 6 < length (f .now))
+    walk : Is Five xs (five-val xs ∷ []) → Is (ShrSlice (named 0) κ u64) f (fv ∷ []) → length xs ≡ 5 → (j < length xs) × (recordLength * (j + 1) ≤ length (f .now))
         → ent 𝓤 (onEntry 𝓤 H A stored.signature (κ, tt) (q, tt) a at) (WpFn 𝓤 H C Λ code.function (five-val xs ∷ fv ∷ vint w64 j ∷ []) Post)
     walk is p len held =
         qed W ((‵ (flft κ q) ⊛ ‵ ftrue) ∷ ‵ (owns (Five ∷ ShrSlice (named 0) κ u64 ∷ usize ∷ []) a at) ∷ []) ∵ enter ! C Λ code.function
@@ -195,7 +195,7 @@ module _ {M : Type 1} (𝓤 : URA M) (H : Heap 𝓤) (A : Atoms 𝓤) (W : Given
   stored-walks C Λ fm known = walked 𝓤 H A stored.ended stayed (stored.clauses 𝓤 H A mem run) (WpFn 𝓤 H C Λ code.function)
       (λ κs. (array-vals (LL.vals T.the-type T′.the-laws), (slice-vals, (uint-vals w64, tt))))
       (λ κs. (array-tells T.the-row (LL.vals T.the-type T′.the-laws) (LL.tells T.the-type T′.the-laws) 5, (shr-slice-tells (named 0) (κs .0) u64, (uint-tells w64, tt))))
-      (λ κs qs bounds a g are. needs 𝓤 ((a .1 .1 .0 < 5) × (recordLength * a .1 .1 .0 + 6 < length (a .1 .0 .now))) _ (λ i.
+      (λ κs qs bounds a g are. needs 𝓤 ((a .1 .1 .0 < 5) × (recordLength * (a .1 .1 .0 + 1) ≤ length (a .1 .0 .now))) _ (λ i.
       walk 𝓤 H A W mem run (κs .0) (qs .0) (a .0) (a .1 .0) (a .1 .1 .0) (are .1 .1 .0 .1) C Λ fm known (are .0) (are .1 .0) (are .0 .1 .0 .1)
       (subst (λ (n : ℕ). a .1 .1 .0 < n) (sym (are .0 .1 .0 .1)) (i .0), i .1)))
 

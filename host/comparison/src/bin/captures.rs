@@ -14,7 +14,7 @@
 //!   frame WIDTH HEIGHT CELL MARGIN
 //!   refusal NUMBER                     that of rectify: 16 where the fit that it laid the card by has no score; 5 and 6 end the block
 //!   mask SUM
-//!   patches COUNT SUM                  the sum goes over all records, seven numbers each
+//!   patches COUNT SUM                  the sum goes over all records, eight numbers each
 //!   candidates COUNT                   then a line each:
 //!   X Y SCORE SIZE PLACE
 //!   corners TL TR BR BL                places in the patch list; 7 to 10 end the block before this line. After 16 this and what

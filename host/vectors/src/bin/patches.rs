@@ -1,9 +1,11 @@
 //! Inputs and outputs of the programs `patches` and `test_patches`. In host/vectors, after host/oracle/prepare:
 //!   CARGO_TARGET_DIR=../target cargo run --release --offline --bin patches
 //! writes crates/patches/{stdin,stdout} and crates/test_patches/{args,data/,stdout}. Patch lists are those of the original's
-//! `label_blobs`; what is refused, and the layout of the text, are those of docs/REQUIREMENTS.md, 7.
+//! `label_blobs`, with the outlines of `vectors::patches`; what is refused, and the layout of the text, are those of
+//! docs/REQUIREMENTS.md, 7 and 24.
 
 use std::fs;
+use vectors::patches::{line, records};
 use vectors::Random;
 
 const REFUSED: &str = "refused 2\n";
@@ -31,14 +33,11 @@ fn text(m: &Mask) -> Vec<u8> {
     t
 }
 
-/// What the program prints for an accepted mask, from the original's list.
+/// What the program prints for an accepted mask.
 fn listing(m: &Mask) -> String {
-    let blobs = lpcorepub::geometry::label_blobs(&m.dark, m.w, m.h);
-    let mut s = format!("{} {} {}\n", m.w, m.h, blobs.len());
-    for b in &blobs {
-        s += &format!("{} {} {} {} {} {} {}\n", b.area, b.sx, b.sy, b.x0, b.y0, b.x1, b.y1);
-    }
-    s
+    let records = records(&m.dark, m.w, m.h);
+    let head = format!("{} {} {}\n", m.w, m.h, records.len());
+    records.iter().fold(head, |text, r| text + &line(r))
 }
 
 /// A line that winds inward, one pixel wide, one apart.
@@ -93,6 +92,10 @@ fn accepted() -> Vec<(&'static str, Mask)> {
         ("u_nested", from(&["#.#.#", "#.#.#", "#.#.#", "#...#", "#####"])),
         ("row_end", from(&["..#", "#.."])),
         ("row_end_two", from(&["...##", "##..."])),
+        // holes, whose sides count too: a light one, one with a dark pixel inside, two in one patch
+        ("ring", from(&["###", "#.#", "###"])),
+        ("ring_around_dark", from(&["#####", "#...#", "#.#.#", "#...#", "#####"])),
+        ("ring_of_two_holes", from(&[".......", ".#####.", ".#.#.#.", ".#####."])),
         // the largest
         ("full", mask(64, 64, |_, _| true)),
         ("light", mask(64, 64, |_, _| false)),
@@ -102,6 +105,8 @@ fn accepted() -> Vec<(&'static str, Mask)> {
         ("comb_down", mask(64, 3, |x, y| y == 0 || x % 2 == 0)),
         ("row_64", mask(64, 1, |x, _| x % 3 != 0)),
         ("column_64", mask(1, 64, |_, y| y % 3 != 0)),
+        ("full_row_64", mask(64, 1, |_, _| true)),
+        ("full_column_64", mask(1, 64, |_, _| true)),
         ("mixed_17_11", mixed(17, 11, 4, 1)),
         ("mixed_31_20", mixed(31, 20, 5, 2)),
     ]

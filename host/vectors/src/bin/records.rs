@@ -1,12 +1,14 @@
 //! Input and output of the program `test_records`. In host/vectors, after host/oracle/prepare:
 //!   CARGO_TARGET_DIR=../target cargo run --release --offline --bin records
 //! writes crates/test_records/{stdin,stdout}. The patch list is that of the original's `label_blobs` on the
-//! mask M7. The colours are those of its `px`; the four lines after them, places and sizes that the original panics at,
-//! are refusal 2 and the port's answer for a pixel outside the picture. The candidates are those of its
-//! `fiducial_candidates`: centre, score and size by their bits, and the place of the patch.
+//! mask M7, with the outlines of `vectors::patches`. The colours are those of the original's `px`; the four lines
+//! after them, places and sizes that the original panics at, are refusal 2 and the port's answer for a pixel outside
+//! the picture. The candidates are those of its `fiducial_candidates`: centre, score and size by their bits, and the
+//! place of the patch.
 use lpcorepub::frame::FrameSpec;
-use lpcorepub::geometry::{fiducial_candidates, label_blobs};
+use lpcorepub::geometry::fiducial_candidates;
 use lpcorepub::image::RgbImage;
+use vectors::patches::{line, records};
 use vectors::{bits, places};
 
 const MASK: [&str; 3] = ["#.#", ".#.", "##."];
@@ -33,10 +35,10 @@ fn main() {
     input.extend(&data);
     input.extend(&rings.data);
 
-    let blobs = label_blobs(&dark, 3, 3);
-    let mut out = format!("3 3 {}\n", blobs.len());
-    for b in &blobs {
-        out += &format!("{} {} {} {} {} {} {}\n", b.area, b.sx, b.sy, b.x0, b.y0, b.x1, b.y1);
+    let patches = records(&dark, 3, 3);
+    let mut out = format!("3 3 {}\n", patches.len());
+    for r in &patches {
+        out += &line(r);
     }
     let image = RgbImage { w: 3, h: 3, data };
     for y in 0..3 {

@@ -8,14 +8,15 @@
 // is not the original's, and left out. The smallest lengths are those of docs/REQUIREMENTS.md, 3.1. The original has no
 // candidate page: its text is made here, from the original's candidates. Nor has it a book of fits, whose bytes are made
 // here by to_le_bytes, or a checkerboard, which is a formula here. Pixels beyond the picture's edge are counted here, by
-// its `map` and `vectors::inside`.
+// its `map` and `vectors::inside`, and the outlines of patches by `vectors::patches`.
 use lpcorepub::frame::FrameSpec;
 use lpcorepub::geometry::{
-    adaptive_black_mask, bilinear, detect_fiducials, fiducial_candidates, fit_for, fit_geometry, grid_score, label_blobs, luma_plane,
-    margin_for, marker_centers, marker_layout, marker_size, mat3_mul, quiet_zone, rectify, rms_error, stamp_fiducials, warp_with, Blob,
-    Candidate, GeometryFit, Homography, Radial,
+    adaptive_black_mask, bilinear, detect_fiducials, fiducial_candidates, fit_for, fit_geometry, grid_score, luma_plane, margin_for,
+    marker_centers, marker_layout, marker_size, mat3_mul, quiet_zone, rectify, rms_error, stamp_fiducials, warp_with, Candidate,
+    GeometryFit, Homography, Radial,
 };
 use lpcorepub::image::RgbImage;
+use vectors::patches::{records, Record, PATCH_LEN};
 use vectors::pictures::{card, frame, integral_of, outside, photograph, put_fit, sampled};
 use vectors::stages::{searched, Points};
 use vectors::{beyond, inside, Random, Vectors};
@@ -64,14 +65,14 @@ struct Look {
     luma: Vec<f32>,
     integral: Vec<f64>,
     mask: Vec<u8>,
-    patches: Vec<Blob>,
+    patches: Vec<Record>,
     candidates: Vec<Candidate>,
     places: Vec<usize>,
 }
 
-fn place(patches: &[Blob], center: [f64; 2]) -> usize {
-    let at = |b: &Blob| [b.sx / b.area as f64 + 0.5, b.sy / b.area as f64 + 0.5];
-    patches.iter().position(|b| at(b) == center).unwrap()
+fn place(patches: &[Record], center: [f64; 2]) -> usize {
+    let at = |[area, x, y, ..]: &Record| [x, y].map(|sum| *sum as f64 / *area as f64 + 0.5);
+    patches.iter().position(|r| at(r) == center).unwrap()
 }
 
 fn look(img: &RgbImage, f: &FrameSpec) -> Look {
@@ -79,15 +80,15 @@ fn look(img: &RgbImage, f: &FrameSpec) -> Look {
     let (marker, _) = marker_layout(f).unwrap();
     let radius = (marker as usize / 3).clamp(8, img.w.min(img.h) / 4);
     let dark = adaptive_black_mask(&luma, img.w, img.h, radius, 8.0);
-    let patches = label_blobs(&dark, img.w, img.h);
+    let patches = records(&dark, img.w, img.h);
     let candidates = fiducial_candidates(img, f);
     let places = candidates.iter().map(|c| place(&patches, c.center)).collect();
     let integral = integral_of(&luma, img.w, img.h);
     Look { luma, integral, mask: dark.iter().map(|d| *d as u8).collect(), patches, candidates, places }
 }
 
-fn patch(v: &mut Vectors, b: &Blob) {
-    words(v, &[b.area as usize, b.sx as usize, b.sy as usize, b.x0, b.y0, b.x1, b.y1]);
+fn patch(v: &mut Vectors, r: &Record) {
+    words(v, &r.map(|n| n as usize));
 }
 
 // What the areas hold: entries 1,000 and 1,001 of luma, the last two of the integral, mask and marks, two patches, the
@@ -99,8 +100,8 @@ fn looked(v: &mut Vectors, l: &Look) {
     floats(v, &l.integral[(W + 1) * (H + 1) - 2..]);
     bytes(v, &l.mask);
     bytes(v, &l.mask);
-    for b in &l.patches[..2] {
-        patch(v, b);
+    for r in &l.patches[..2] {
+        patch(v, r);
     }
     for c in &l.candidates[..4] {
         floats(v, &[c.center[0], c.center[1], c.score, c.size]);
@@ -230,8 +231,8 @@ fn pictures(v: &mut Vectors, img: &RgbImage, f: &FrameSpec) {
     // the patches of that mask
     words(v, &[0, l.patches.len()]);
     bytes(v, &l.mask);
-    for b in &l.patches[..2] {
-        patch(v, b);
+    for r in &l.patches[..2] {
+        patch(v, r);
     }
 
     page(v, &l.candidates);
@@ -284,7 +285,7 @@ fn fits(v: &mut Vectors, img: &RgbImage, f: &FrameSpec, points: &Points) -> Geom
 fn frames(v: &mut Vectors, f: &FrameSpec) {
     let n = W * H;
     v.word(0);
-    let (patches, candidates) = (7 * n.div_ceil(2), 4 * (n / 32));
+    let (patches, candidates) = (PATCH_LEN * n.div_ceil(2), 4 * (n / 32));
     words(v, &[3 * n, n, (W + 1) * (H + 1), n, n, n, patches, candidates, n / 32, sampled(f), 3 * f.width * f.height]);
     v.word(0);
     words(v, &[f.cols(), f.rows()]);

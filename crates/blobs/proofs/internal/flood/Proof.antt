@@ -1,5 +1,5 @@
 -- `blobs::internal::flood` meets its contract. Assumes nothing.
-use Prim.Native.Nat.{_+_, _-_, _≤_, _<_}
+use Prim.Native.Nat.{_+_, _-_, _/_, _%_, _≤_, _<_}
 use native.Mathlib.Omega.{arith}
 use mathlib.Core.Path.{_≡_, refl, sym, ap, subst, _∙_}
 use denote.Ref.{now}
@@ -11,10 +11,11 @@ use lib.ListN.{length-set}
 use Rattle.base.specs.Loops.{turns}
 use Rattle.base.proofs.Turns.{turns-begin, turns-step, turns-end}
 use Rattle.blobs.specs.Patches.{PatchOf}
-use Rattle.blobs.specs.Stack.{marking, stackOf, Flooding, flooding, begun, floodStep, flood}
-use Rattle.blobs.specs.Ready.{Held}
+use Rattle.blobs.specs.Stack.{marking, stackOf, grow, Flooding, flooding, begun, floodStep, flood}
+use Rattle.blobs.specs.Ready.{Held, Pixel}
 use Rattle.blobs.proofs.Steps.{Waits, newest}
-use Rattle.blobs.proofs.Floods.{Progress, progress-turns, progress-area, progress-sx, progress-sy, held-pop, pixel-at, flood-does}
+use Rattle.blobs.proofs.Floods.{Progress, progress-turns, progress-area, progress-sx, progress-sy, progress-outline, held-pop, pixel-at, flood-does}
+use Rattle.blobs.proofs.Sides.{sides-most}
 use Rattle.blobs.proofs.Stacks.{length-stack, stack-pop, stack-none, begun-is, floodStep-is, grow-area, flood-is, no-blob-area}
 use Rattle.blobs.proofs.internal.flood.Statement.{statement}
 use Rattle.blobs.proofs.internal.flood.Tie as tie
@@ -56,6 +57,16 @@ long : (c : tie.At-loop Inv-loop μ-loop) → length (c .loop .waiting) ≡ leng
 long c =
     let a = c .before .before .before .before .before .args in
     c .loop .inv .1 ∙ length-set (now (a .waiting)) 0 (a .a) ∙ c .before .before .before .before .before .pre .1
+
+-- the pixel that waits newest
+taken : (c : tie.In-loop Inv-loop μ-loop) → let a = c .before .before .before .before .before .before .args in let l = c .before .loop in
+    Pixel (now (a .mask)) (a .w) (getD (l .waiting) (l .top - 1) 0)
+taken c =
+    let l = c .before .loop in
+    let p = getD (l .waiting) (l .top - 1) 0 in
+    let e : l .top ≡ l .top - 1 + 1 = omega (arith, c .loop-test .taken) in
+    pixel-at p (c .before .before .before .before .before .before .pre .0 .pixel) (progress (c .before) .stacked p
+    (subst (Waits p) (sym (stack-pop (l .waiting) (l .top) (l .top - 1) e)) (newest refl)))
 
 no-blob-requires : tie.Need-no-blob-requires Inv-loop μ-loop
 no-blob-requires c κs = c .before .before .before .pre .0 .pixel .wide
@@ -99,39 +110,45 @@ rem-x c = c .before .before .before .before .before .before .before .pre .0 .pix
 div-y : tie.Need-div-y Inv-loop μ-loop
 div-y c = c .before .before .before .before .before .before .before .pre .0 .pixel .wide
 
+sides-requires : tie.Need-sides-requires Inv-loop μ-loop
+sides-requires c κs = (taken (c .before), refl)
+
 grow-requires : tie.Need-grow-requires Inv-loop μ-loop
 grow-requires c κs =
-    let g = c .before .before .before .before .before .before .before .pre .0 .pixel in
-    let v = progress (c .before .before) in
-    let p = getD (c .before .before .loop .waiting) (c .before .before .loop .top - 1) 0 in
+    let a = c .before .before .before .before .before .before .before .before in
+    let g = a .pre .0 .pixel in
+    let l = c .before .before .before .loop in
+    let v = progress (c .before .before .before) in
+    let p = getD (l .waiting) (l .top - 1) 0 in
     omega (
       arith,
       progress-area v,
       progress-sx g v,
       progress-sy g v,
+      progress-outline g v,
       g .small,
       g .narrow,
       mod-lt p (g .wide),
-      div-le-self p
-          (c .before .before .before .before .before .before .before .args .w),
-      c .slice-known3 .given (c .before .before .loop .top - 1),
+      div-le-self p (a .args .w),
+      c .before .slice-known3 .given (l .top - 1),
+      c .sides .ensures,
+      sides-most (now (a .args .mask)) (a .args .w) p,
     )
 
 spread-requires : tie.Need-spread-requires Inv-loop μ-loop
 spread-requires c κs =
-    let s = c .before .before .before .before .before .before .before .before .before .before in
-    let l = c .before .before .before .before .before .loop in
-    let v = progress (c .before .before .before .before .before) in
+    let b = c .before .before .before .before .before .before in
+    let l = b .loop in
+    let s = b .before .before .before .before .before .args in
     let low = l .top - 1 in
-    let e : l .top ≡ low + 1 = omega (arith, c .before .before .before .before .loop-test .taken) in
-    let j = v .stacked (getD (l .waiting) low 0) (subst (Waits (getD (l .waiting) low 0)) (sym (stack-pop (l .waiting) (l .top) low e)) (newest refl)) in (
+    let e : l .top ≡ low + 1 = omega (arith, c .before .before .before .before .before .loop-test .taken) in (
       record {
-        held = held-pop (subst (λ k. Held (now (s .args .mask)) (marking (l .seen) k)) (stack-pop (l .waiting) (l .top) low e)
-            (v .held));
-        long = long (c .before .before .before .before .before);
+        held = held-pop (subst (λ k. Held (now (s .mask)) (marking (l .seen) k)) (stack-pop (l .waiting) (l .top) low e)
+            (progress b .held));
+        long = long b;
       },
       (
-        pixel-at (getD (l .waiting) low 0) (s .pre .0 .pixel) j,
+        taken (c .before .before .before .before .before),
         refl,
       ),
     )
@@ -141,32 +158,26 @@ max-requires c κs = search needs
 
 loop-less : tie.Need-loop-less Inv-loop μ-loop
 loop-less c =
-    omega (
-      arith,
-      counted (c .before .before .before .before .before .before .before .before .before .before .before),
-      c .before .before .before
-          .before .before .before .before .before .before .before .loop-test .taken,
-      grow-area (c .before .before .before .before .before .before .before
-          .before .before .before .before .loop .blob) (c .before .before .before .before .before .before .before .before .grow .result) _ _ (c .before
-          .before .before .before .before .before .before .before .grow .ensures),
-    )
+    let b = c .before .before .before .before .before .before .before .before .before .before .before .before in
+    let g = c .before .before .before .before .before .before .before .before .grow in
+    omega (arith, counted b, c .before .before .before .before .before .before .before .before .before .before .before .loop-test .taken, grow-area (b .loop .blob) (g .result) _ _ _ (g .ensures))
 
 loop-again : tie.Need-loop-again Inv-loop μ-loop
 loop-again c =
-    let s = c .before .before .before .before .before .before .before .before .before .before .before .before .before .before .before .before .args in
-    let l = c .before .before .before .before .before .before .before .before .before .before .before .loop in
+    let b = c .before .before .before .before .before .before .before .before .before .before .before .before in
+    let s = b .before .before .before .before .before .args in
+    let l = b .loop in
     let low = l .top - 1 in
     let v = c .before .before .before .before .before .spread in
     let g = c .before .before .before .before .before .before .before .before .grow in
     let m = now (s .mask) in
-    let f₀ = flooding (set (now (s .seen)) (s .a) 1) (stackOf (set (now (s .waiting)) 0 (s .a)) 1) (c .before .before .before .before .before .before
-    .before .before .before .before .before .before .no-blob .result) 1 in (
-      floodStep-is m (s .w) (l .blob .area) (l .seen) (l .waiting) (l .top) (l .blob) (l .waited) (v .last .1 .0) (v .last .1 .1 .0) (v .result) (g
-          .result) (c .max .result) low (omega (
-            arith,
-            c .before .before .before .before .before .before .before .before .before .before .loop-test .taken,
-          )) (v .ensures) (g .ensures) (c .max .ensures) ∙ turns-step (floodStep m (s .w)) f₀ (l .blob .area) (l .inv .0) ∙ ap (λ n. turns n (floodStep m (s
-          .w)) f₀) (sym (grow-area (l .blob) (g .result) _ _ (g .ensures))),
+    let p = getD (l .waiting) low 0 in
+    let f₀ = flooding (set (now (s .seen)) (s .a) 1) (stackOf (set (now (s .waiting)) 0 (s .a)) 1) (b .before .no-blob .result) 1 in (
+      floodStep-is m (s .w) (l .blob .area) (l .seen) (l .waiting) (l .top) (l .blob) (l .waited) (v .last .1 .0) (v .last .1 .1 .0) (v .result)
+          (g .result) (c .max .result) low (omega (arith, c .before .before .before .before .before .before .before .before .before .before .before .loop-test .taken)) (v .ensures)
+          (g .ensures ∙ ap (grow (l .blob) (p % s .w) (p / s .w)) (c .before .before .before .before .before .before .before .before .before .sides .ensures)) (c .max .ensures)
+          ∙ turns-step (floodStep m (s .w)) f₀ (l .blob .area) (l .inv .0)
+          ∙ ap (λ n. turns n (floodStep m (s .w)) f₀) (sym (grow-area (l .blob) (g .result) _ _ _ (g .ensures))),
       v .kept .1 .1 .0 ∙ l .inv .1,
     )
 
@@ -204,6 +215,7 @@ flood-spec =
     cast-p
     rem-x
     div-y
+    sides-requires
     grow-requires
     spread-requires
     max-requires

@@ -24,7 +24,7 @@ before a = scan-at (a .pre .0 .0) (scanned (now (a .args .seen)) (table (patchAt
 
 -- room for one record more
 roomy : (a : tie.Start) → (getD (now (a .args .mask)) (a .args .i) 0 ≡ 0 → ⊥) → getD (now (a .args .seen)) (a .args .i) 0 ≡ 0
-    → recordLength * a .args .c .patches + 7 ≤ length (now (a .args .patches))
+    → recordLength * (a .args .c .patches + 1) ≤ length (now (a .args .patches))
 roomy a d u =
     few-room (length (table (patchAt (now (a .args .patches))) (a .args .c .patches))) (a .args .c .patches) (length (now (a .args .mask))) (length (now (a .args .patches)))
     (length-table (patchAt (now (a .args .patches))) (a .args .c .patches)) (scan-few (before a) (a .pre .0 .3) d u) (a .pre .0 .2)

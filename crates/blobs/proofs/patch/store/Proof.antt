@@ -70,6 +70,15 @@ mul-patches-7 c = search needs
 slice-write-patches-7 : tie.Need-slice-write-patches-7
 slice-write-patches-7 c = simp length-set (omega arith)
 
+add-patches-7 : tie.Need-add-patches-7
+add-patches-7 c = search needs
+
+mul-patches-8 : tie.Need-mul-patches-8
+mul-patches-8 c = search needs
+
+slice-write-patches-8 : tie.Need-slice-write-patches-8
+slice-write-patches-8 c = simp length-set (omega arith)
+
 same-length : tie.Need-same-length
 same-length c = simp length-set
 
@@ -102,5 +111,8 @@ store-spec =
     add-patches-6
     mul-patches-7
     slice-write-patches-7
+    add-patches-7
+    mul-patches-8
+    slice-write-patches-8
     same-length
     returns)

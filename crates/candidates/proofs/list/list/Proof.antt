@@ -9,7 +9,6 @@ use borrow.Author.Needs.{needs}
 use native.Mathlib.Omega.{arith}
 use Prim.Native.Nat.{_≤_, _*_, _-_}
 use mathlib.Core.Path.{_≡_, sym, ap, subst, _∙_}
-use lib.ListN.{length}
 use Rattle.candidates.proofs.list.list.Statement.{statement}
 use Rattle.candidates.proofs.list.list.Tie as tie
 
@@ -32,10 +31,7 @@ ring-is c =
 
 blob-at-requires : tie.Need-blob-at-requires Inv-loop μ-loop
 blob-at-requires c κs =
-    let a = c .before .before .before .before .before .before .before .args in
-    let r : 7 * a .n ≤ length (now (a .patches)) = c .before .before .before .before .before .before .before .pre .patches-long in
-    let t = c .loop-test .taken in
-    omega arith
+    omega (arith, c .before .before .before .before .before .before .before .pre .patches-long, c .loop-test .taken)
 
 candidate-of-requires : tie.Need-candidate-of-requires Inv-loop μ-loop
 candidate-of-requires c κs =

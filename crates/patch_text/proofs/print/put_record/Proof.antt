@@ -11,19 +11,23 @@ put-requires : tie.Need-put-requires
 put-requires c κs = omega (arith, c .before .before .pre)
 
 put-requires-2 : tie.Need-put-requires-2
-put-requires-2 c κs = omega (arith, c .before .before .before .before .before .before .pre, c .before .before .before .put .ensures .to, c .before .before .before .put .kept .0)
+put-requires-2 c κs =
+    omega (
+      arith,
+      c .before .before .before .before .before .before .pre,
+      c .before .before .before .put .ensures .to,
+      c .before .before .before .put .kept .0,
+    )
 
 put-requires-3 : tie.Need-put-requires-3
 put-requires-3 c κs =
     omega (
       arith,
       c .before .before .before .before .before .before .before .before .before .before .pre,
-      c .before .before .before .put2 .ensures
-          .to,
+      c .before .before .before .put2 .ensures .to,
       c .before .before .before .put2 .kept .0,
       c .before .before .before .before .before .before .before .put .ensures .to,
-      c .before .before
-          .before .before .before .before .before .put .kept .0,
+      c .before .before .before .before .before .before .before .put .kept .0,
     )
 
 put-requires-4 : tie.Need-put-requires-4
@@ -31,124 +35,116 @@ put-requires-4 c κs =
     omega (
       arith,
       c .before .before .before .before .before .before .before .before .before .before .before .before .before .before .pre,
-      c .before
-          .before .before .put3 .ensures .to,
+      c .before .before .before .put3 .ensures .to,
       c .before .before .before .put3 .kept .0,
-      c .before .before .before .before .before .before .before .put2
-          .ensures .to,
+      c .before .before .before .before .before .before .before .put2 .ensures .to,
       c .before .before .before .before .before .before .before .put2 .kept .0,
-      c .before .before .before .before .before .before .before
-          .before .before .before .before .put .ensures .to,
-      c .before .before .before .before .before .before .before .before .before .before .before .put
-          .kept .0,
+      c .before .before .before .before .before .before .before .before .before .before .before .put .ensures .to,
+      c .before .before .before .before .before .before .before .before .before .before .before .put .kept .0,
     )
 
 put-requires-5 : tie.Need-put-requires-5
 put-requires-5 c κs =
     omega (
       arith,
-      c .before .before .before .before .before .before .before .before .before .before .before .before .before .before .before .before
-          .before .before .pre,
+      c .before .before .before .before .before .before .before .before .before .before .before .before .before .before .before .before .before .before .pre,
       c .before .before .before .put4 .ensures .to,
       c .before .before .before .put4 .kept .0,
-      c .before .before .before .before
-          .before .before .before .put3 .ensures .to,
+      c .before .before .before .before .before .before .before .put3 .ensures .to,
       c .before .before .before .before .before .before .before .put3 .kept .0,
-      c .before .before .before
-          .before .before .before .before .before .before .before .before .put2 .ensures .to,
-      c .before .before .before .before .before .before .before
-          .before .before .before .before .put2 .kept .0,
-      c .before .before .before .before .before .before .before .before .before .before .before .before
-          .before .before .before .put .ensures .to,
-      c .before .before .before .before .before .before .before .before .before .before .before .before
-          .before .before .before .put .kept .0,
+      c .before .before .before .before .before .before .before .before .before .before .before .put2 .ensures .to,
+      c .before .before .before .before .before .before .before .before .before .before .before .put2 .kept .0,
+      c .before .before .before .before .before .before .before .before .before .before .before .before .before .before .before .put .ensures .to,
+      c .before .before .before .before .before .before .before .before .before .before .before .before .before .before .before .put .kept .0,
     )
 
 put-requires-6 : tie.Need-put-requires-6
 put-requires-6 c κs =
     omega (
       arith,
-      c .before .before .before .before .before .before .before .before .before .before .before .before .before .before .before .before
-          .before .before .before .before .before .before .pre,
+      c .before .before .before .before .before .before .before .before .before .before .before .before .before .before .before .before .before .before .before .before .before .before .pre,
       c .before .before .before .put5 .ensures .to,
       c .before .before .before .put5 .kept .0,
-      c
-          .before .before .before .before .before .before .before .put4 .ensures .to,
-      c .before .before .before .before .before .before .before .put4 .kept
-          .0,
+      c .before .before .before .before .before .before .before .put4 .ensures .to,
+      c .before .before .before .before .before .before .before .put4 .kept .0,
       c .before .before .before .before .before .before .before .before .before .before .before .put3 .ensures .to,
-      c .before .before .before
-          .before .before .before .before .before .before .before .before .put3 .kept .0,
-      c .before .before .before .before .before .before .before .before
-          .before .before .before .before .before .before .before .put2 .ensures .to,
-      c .before .before .before .before .before .before .before .before
-          .before .before .before .before .before .before .before .put2 .kept .0,
-      c .before .before .before .before .before .before .before .before .before
-          .before .before .before .before .before .before .before .before .before .before .put .ensures .to,
-      c .before .before .before .before .before
-          .before .before .before .before .before .before .before .before .before .before .before .before .before .before .put .kept .0,
+      c .before .before .before .before .before .before .before .before .before .before .before .put3 .kept .0,
+      c .before .before .before .before .before .before .before .before .before .before .before .before .before .before .before .put2 .ensures .to,
+      c .before .before .before .before .before .before .before .before .before .before .before .before .before .before .before .put2 .kept .0,
+      c .before .before .before .before .before .before .before .before .before .before .before .before .before .before .before .before .before .before .before .put .ensures .to,
+      c .before .before .before .before .before .before .before .before .before .before .before .before .before .before .before .before .before .before .before .put .kept .0,
     )
 
 put-requires-7 : tie.Need-put-requires-7
 put-requires-7 c κs =
     omega (
       arith,
-      c .before .before .before .before .before .before .before .before .before .before .before .before .before .before .before .before
-          .before .before .before .before .before .before .before .before .before .before .pre,
+      c .before .before .before .before .before .before .before .before .before .before .before .before .before .before .before .before .before .before .before .before .before .before .before .before .before .before .pre,
       c .before .before .before .put6 .ensures .to,
-      c .before
-          .before .before .put6 .kept .0,
+      c .before .before .before .put6 .kept .0,
       c .before .before .before .before .before .before .before .put5 .ensures .to,
-      c .before .before .before .before
-          .before .before .before .put5 .kept .0,
-      c .before .before .before .before .before .before .before .before .before .before .before .put4 .ensures
-          .to,
+      c .before .before .before .before .before .before .before .put5 .kept .0,
+      c .before .before .before .before .before .before .before .before .before .before .before .put4 .ensures .to,
       c .before .before .before .before .before .before .before .before .before .before .before .put4 .kept .0,
-      c .before .before .before .before
-          .before .before .before .before .before .before .before .before .before .before .before .put3 .ensures .to,
-      c .before .before .before .before
-          .before .before .before .before .before .before .before .before .before .before .before .put3 .kept .0,
-      c .before .before .before .before .before
-          .before .before .before .before .before .before .before .before .before .before .before .before .before .before .put2 .ensures .to,
-      c .before
-          .before .before .before .before .before .before .before .before .before .before .before .before .before .before .before .before .before .before
-          .put2 .kept .0,
-      c .before .before .before .before .before .before .before .before .before .before .before .before .before .before .before .before
-          .before .before .before .before .before .before .before .put .ensures .to,
-      c .before .before .before .before .before .before .before .before
-          .before .before .before .before .before .before .before .before .before .before .before .before .before .before .before .put .kept .0,
+      c .before .before .before .before .before .before .before .before .before .before .before .before .before .before .before .put3 .ensures .to,
+      c .before .before .before .before .before .before .before .before .before .before .before .before .before .before .before .put3 .kept .0,
+      c .before .before .before .before .before .before .before .before .before .before .before .before .before .before .before .before .before .before .before .put2 .ensures .to,
+      c .before .before .before .before .before .before .before .before .before .before .before .before .before .before .before .before .before .before .before .put2 .kept .0,
+      c .before .before .before .before .before .before .before .before .before .before .before .before .before .before .before .before .before .before .before .before .before .before .before .put .ensures .to,
+      c .before .before .before .before .before .before .before .before .before .before .before .before .before .before .before .before .before .before .before .before .before .before .before .put .kept .0,
+    )
+
+put-requires-8 : tie.Need-put-requires-8
+put-requires-8 c κs =
+    omega (
+      arith,
+      c .before .before .before .before .before .before .before .before .before .before .before .before .before .before .before .before .before .before .before .before .before .before .before .before .before .before .before .before .before .before .pre,
+      c .before .before .before .put7 .ensures .to,
+      c .before .before .before .put7 .kept .0,
+      c .before .before .before .before .before .before .before .put6 .ensures .to,
+      c .before .before .before .before .before .before .before .put6 .kept .0,
+      c .before .before .before .before .before .before .before .before .before .before .before .put5 .ensures .to,
+      c .before .before .before .before .before .before .before .before .before .before .before .put5 .kept .0,
+      c .before .before .before .before .before .before .before .before .before .before .before .before .before .before .before .put4 .ensures .to,
+      c .before .before .before .before .before .before .before .before .before .before .before .before .before .before .before .put4 .kept .0,
+      c .before .before .before .before .before .before .before .before .before .before .before .before .before .before .before .before .before .before .before .put3 .ensures .to,
+      c .before .before .before .before .before .before .before .before .before .before .before .before .before .before .before .before .before .before .before .put3 .kept .0,
+      c .before .before .before .before .before .before .before .before .before .before .before .before .before .before .before .before .before .before .before .before .before .before .before .put2 .ensures .to,
+      c .before .before .before .before .before .before .before .before .before .before .before .before .before .before .before .before .before .before .before .before .before .before .before .put2 .kept .0,
+      c .before .before .before .before .before .before .before .before .before .before .before .before .before .before .before .before .before .before .before .before .before .before .before .before .before .before .before .put .ensures .to,
+      c .before .before .before .before .before .before .before .before .before .before .before .before .before .before .before .before .before .before .before .before .before .before .before .before .before .before .before .put .kept .0,
     )
 
 same-length : tie.Need-same-length
 same-length c =
-    let b = c .before .before .before .before .before .before in
-    c .before .before .put7 .kept .0 ∙ b .put6 .kept .0 ∙ b .before .before .before .before .put5 .kept .0 ∙ b .before .before .before .before .before
-    .before .before .before .put4 .kept .0 ∙ b .before .before .before .before .before .before .before .before .before .before .before .before .put3
-    .kept .0 ∙ b .before .before .before .before .before .before .before .before .before .before .before .before .before .before .before .before .put2
-    .kept .0 ∙ b .before .before .before .before .before .before .before .before .before .before .before .before .before .before .before .before
-    .before .before .before .before .put .kept .0
+    c .before .before .put8 .kept .0
+    ∙ c .before .before .before .before .before .before .put7 .kept .0
+    ∙ c .before .before .before .before .before .before .before .before .before .before .put6 .kept .0
+    ∙ c .before .before .before .before .before .before .before .before .before .before .before .before .before .before .put5 .kept .0
+    ∙ c .before .before .before .before .before .before .before .before .before .before .before .before .before .before .before .before .before .before .put4 .kept .0
+    ∙ c .before .before .before .before .before .before .before .before .before .before .before .before .before .before .before .before .before .before .before .before .before .before .put3 .kept .0
+    ∙ c .before .before .before .before .before .before .before .before .before .before .before .before .before .before .before .before .before .before .before .before .before .before .before .before .before .before .put2 .kept .0
+    ∙ c .before .before .before .before .before .before .before .before .before .before .before .before .before .before .before .before .before .before .before .before .before .before .before .before .before .before .before .before .before .before .put .kept .0
 
 returns : tie.Need-returns
 unfolding recordLine
 returns c =
-    let b = c .before .before .before .before .before .before in
-    let a = b .before .before .before .before .before .before .before .before .before .before .before .before .before .before .before .before .before
-    .before .before .before .before .before .before .args in
-    let v1 = b .before .before .before .before .before .before .before .before .before .before .before .before .before .before .before .before .before
-    .before .before .before .put in
-    let v2 = b .before .before .before .before .before .before .before .before .before .before .before .before .before .before .before .before .put2
-    in
-    let v3 = b .before .before .before .before .before .before .before .before .before .before .before .before .put3 in
-    let v4 = b .before .before .before .before .before .before .before .before .put4 in
-    let v5 = b .before .before .before .before .put5 in
-    let v6 = b .put6 in
-    let v7 = c .before .before .put7 in
+    let a = c .before .before .before .before .before .before .before .before .before .before .before .before .before .before .before .before .before .before .before .before .before .before .before .before .before .before .before .before .before .before .before .before .before .args in
+    let v1 = c .before .before .before .before .before .before .before .before .before .before .before .before .before .before .before .before .before .before .before .before .before .before .before .before .before .before .before .before .before .before .put in
+    let v2 = c .before .before .before .before .before .before .before .before .before .before .before .before .before .before .before .before .before .before .before .before .before .before .before .before .before .before .put2 in
+    let v3 = c .before .before .before .before .before .before .before .before .before .before .before .before .before .before .before .before .before .before .before .before .before .before .put3 in
+    let v4 = c .before .before .before .before .before .before .before .before .before .before .before .before .before .before .before .before .before .before .put4 in
+    let v5 = c .before .before .before .before .before .before .before .before .before .before .before .before .before .before .put5 in
+    let v6 = c .before .before .before .before .before .before .before .before .before .before .put6 in
+    let v7 = c .before .before .before .before .before .before .put7 in
+    let v8 = c .before .before .put8 in
     let w2 = written-more (now (a .out)) (v1 .last .0) (v2 .last .0) (a .at) (v1 .result) (v2 .result) 21 21 _ _ (v1 .ensures) (v2 .ensures) in
     let w3 = written-more (now (a .out)) (v2 .last .0) (v3 .last .0) (a .at) (v2 .result) (v3 .result) 42 21 _ _ w2 (v3 .ensures) in
     let w4 = written-more (now (a .out)) (v3 .last .0) (v4 .last .0) (a .at) (v3 .result) (v4 .result) 63 21 _ _ w3 (v4 .ensures) in
     let w5 = written-more (now (a .out)) (v4 .last .0) (v5 .last .0) (a .at) (v4 .result) (v5 .result) 84 21 _ _ w4 (v5 .ensures) in
     let w6 = written-more (now (a .out)) (v5 .last .0) (v6 .last .0) (a .at) (v5 .result) (v6 .result) 105 21 _ _ w5 (v6 .ensures) in
-    written-more (now (a .out)) (v6 .last .0) (v7 .last .0) (a .at) (v6 .result) (v7 .result) 126 21 _ _ w6 (v7 .ensures)
+    let w7 = written-more (now (a .out)) (v6 .last .0) (v7 .last .0) (a .at) (v6 .result) (v7 .result) 126 21 _ _ w6 (v7 .ensures) in
+    written-more (now (a .out)) (v7 .last .0) (v8 .last .0) (a .at) (v7 .result) (v8 .result) 147 21 _ _ w7 (v8 .ensures)
 
 pub put-record-spec : {M : Type 1} → statement M
 put-record-spec =
@@ -161,5 +157,6 @@ put-record-spec =
     put-requires-5
     put-requires-6
     put-requires-7
+    put-requires-8
     same-length
     returns)

@@ -13,7 +13,7 @@ use Rattle.patch_text.proofs.print.put_records.Statement.{statement}
 use Rattle.patch_text.proofs.print.put_records.Tie as tie
 
 abbrev Inv-loop : tie.InvT-loop
-Inv-loop out₀ at patches n end₀ j₀ out end j = Written out₀ out at end (147 * j) (recordLines (table (patchAt patches) j)) × (j ≤ n) × (length out ≡ length out₀)
+Inv-loop out₀ at patches n end₀ j₀ out end j = Written out₀ out at end (168 * j) (recordLines (table (patchAt patches) j)) × (j ≤ n) × (length out ≡ length out₀)
 
 abbrev μ-loop : tie.MeasureT-loop
 μ-loop out₀ at patches n end₀ j₀ out end j = n - j
@@ -58,7 +58,7 @@ returns c =
     let a = c .before .before .before .before .args in
     let l = c .before .loop in
     let e : l .j ≡ a .n = omega (arith, l .inv .1, c .loop-test .left) in
-    subst (λ k. Written (now (a .out)) (l .out) (a .at) (l .end) (147 * k) (recordLines (table (patchAt (now (a .patches))) k))) e (l .inv .0)
+    subst (λ k. Written (now (a .out)) (l .out) (a .at) (l .end) (168 * k) (recordLines (table (patchAt (now (a .patches))) k))) e (l .inv .0)
 
 pub put-records-spec : {M : Type 1} → statement M
 put-records-spec =
