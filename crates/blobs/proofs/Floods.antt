@@ -251,7 +251,7 @@ pub record Flooded (m : List ℕ) (w a : ℕ) (s : List ℕ) (f : Flooding) : Ty
   pub all : (q : ℕ) → Joined m w a q → at (f .seen) q ≡ 1
   pub only : (q : ℕ) → at (f .seen) q ≡ 1 → (at s q ≡ 1) ⊎ Joined m w a q
   pub count : total one (at (f .seen)) (length m) ≡ total one (at s) (length m) + f .blob .area
-  pub edge : total (sides m w) (at (f .seen)) (length m) ≡ total (sides m w) (at s) (length m) + f .blob .outline
+  pub outline : total (sides m w) (at (f .seen)) (length m) ≡ total (sides m w) (at s) (length m) + f .blob .outline
   pub some : 1 ≤ f .waited
   pub waited-held : f .waited ≤ f .blob .area
 
@@ -323,7 +323,7 @@ module _ {m : List ℕ} {w a : ℕ} {s₀ : List ℕ} (g : Ready m w s₀ a) (f 
         all = all′;
         only = λ q e. ⊎-elim inl (λ x. inr (x .0)) (ended q e);
         count = omega (arith, v .area, ap length fe);
-        edge = omega (arith, v .outline, none-left (sides m w));
+        outline = omega (arith, v .outline, none-left (sides m w));
         some = v .some;
         waited-held = omega (arith, v .waited-held, v .area, ap length fe);
       }

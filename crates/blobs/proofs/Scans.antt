@@ -251,7 +251,7 @@ module _ {m : List ℕ} {w : ℕ} {c : Scanned} {i : ℕ} (v : Scan m w c i) (in
           before = before′;
           every = every′;
           areas = sums (λ t. t .area) one (g .count) (v .areas);
-          outlines = sums (λ t. t .outline) (sides m w) (g .edge) (v .outlines);
+          outlines = sums (λ t. t .outline) (sides m w) (g .outline) (v .outlines);
           waited-held = waited-held′;
           flag = flag′;
           flag-long = length-set (v .flag) i 1 ∙ v .flag-long;

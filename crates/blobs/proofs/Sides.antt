@@ -1,11 +1,10 @@
 -- The sides of a pixel: at most four count, and the others face a dark pixel that shares an edge with it. Assumes nothing.
-use Prim.Native.Nat.{ℕ, zero, suc, _+_, _-_, _*_, _%_, _≤_, _<_, min}
+use Prim.Native.Nat.{ℕ, zero, suc, _+_, _-_, _*_, _%_, _≤_, _<_}
 use native.Mathlib.Nat.{mod-lt, mod-le, mul-one}
 use native.Mathlib.Decide.{decLt, ℕ-discrete}
 use native.Mathlib.Omega.{arith}
 use mathlib.Core.Path.{_≡_, refl, sym, ap, subst, _∙_}
-use mir.Val.{boolByte}
-use mathlib.Core.Bool.{Bool, true, false, cond}
+use mathlib.Core.Bool.{Bool, true, false, cond, true≢false}
 use mathlib.Core.List.{List}
 use mathlib.Core.Logic.{_⊎_, inl, inr, ⊎-elim}
 use lib.Dec.{leb, ltb, eqb}
@@ -21,15 +20,6 @@ use Rattle.blobs.proofs.Grid.{left-of, right-of, dark-inside}
 use Rattle.blobs.proofs.Joins.{joined-dark}
 use Rattle.blobs.proofs.Marks.{marks-same, marks-as, marks-either}
 
--- the code's test of a pixel
-pub light-is : (m : List ℕ) (q : ℕ) → boolByte (eqb (getD m q 0) 0) ≡ light m q
-unfolding light
-light-is m q = go (ℕ-discrete (getD m q 0) 0)
-  where
-    go : Dec (getD m q 0 ≡ 0) → boolByte (eqb (getD m q 0) 0) ≡ 1 - min (getD m q 0) 1
-    go (yes e) = ap boolByte (eq-eqb (getD m q 0) 0 e) ∙ omega arith
-    go (no o) = ap boolByte (ne-eqb (getD m q 0) 0 o) ∙ omega arith
-
 pub side-most : (m : List ℕ) (there : Bool) (q : ℕ) → side m there q ≤ 1
 unfolding side light
 side-most m there q = cond-elim (λ z. z ≤ 1) there (light m q) 1 (λ e. omega arith) (λ e. omega arith)
@@ -38,10 +28,13 @@ pub sides-most : (m : List ℕ) (w p : ℕ) → sides m w p ≤ 4
 unfolding sides
 sides-most m w p = omega (arith, side-most m (ltb 0 (p % w)) (p - 1), side-most m (ltb (p % w + 1) w) (p + 1), side-most m (leb w p) (p - w), side-most m (ltb (p + w) (length m)) (p + w))
 
--- ---- one side: what it counts not, told by the pixel r on its other side
+-- ---- one side, which faces the pixel r, if there is one
+
+-- q is that pixel, and dark
 abbrev Faced : List ℕ → Bool → ℕ → ℕ → Type 0
 Faced m there r q = (q ≡ r) × (there ≡ true) × Dark m q
 
+-- .. and counted
 unfoldable faced : List ℕ → Bool → ℕ → ℕ → ℕ
 faced m there r q = cond (eqb q r) (1 - side m there r) 0
 
@@ -51,11 +44,8 @@ module _ (m : List ℕ) (there : Bool) (r : ℕ) where
   unfolding side light
   side-or = cond-elim (λ z. ((z ≡ 1) × (there ≡ true → Dark m r → ⊥)) ⊎ ((z ≡ 0) × (there ≡ true) × Dark m r)) there (light m r) 1
       (λ e. go e (ℕ-discrete (getD m r 0) 0))
-      (λ e. inl (refl, λ t. absurd (never t e)))
+      (λ e. inl (refl, λ t. absurd (true≢false (sym t ∙ e))))
     where
-      never : there ≡ true → there ≡ false → ⊥
-      never t f = mathlib.Core.Bool.true≢false (sym t ∙ f)
-
       go : there ≡ true → Dec (getD m r 0 ≡ 0) → ((light m r ≡ 1) × (there ≡ true → Dark m r → ⊥)) ⊎ ((light m r ≡ 0) × (there ≡ true) × Dark m r)
       go e (yes z) = inl (omega arith, λ t d. d z)
       go e (no d) = inr (omega arith, e, d)
@@ -99,7 +89,7 @@ module _ (m : List ℕ) (there : Bool) (r : ℕ) where
       light-total e (yes l) = omega (arith, faced-above (length m) l)
       light-total e (no o) = faced-below (length m) (omega arith)
 
--- ---- the four sides
+-- ---- the four sides of p: left, right, upper, lower
 module _ (m : List ℕ) (w p : ℕ) (wide : 0 < w) where
   abbrev L : ℕ → Type 0
   L = Faced m (ltb 0 (p % w)) (p - 1)
@@ -113,7 +103,7 @@ module _ (m : List ℕ) (w p : ℕ) (wide : 0 < w) where
   abbrev D : ℕ → Type 0
   D = Faced m (ltb (p + w) (length m)) (p + w)
 
-  -- the four pixels are apart
+  -- no pixel is on two of them
   left-right : (q : ℕ) → L q → R q → ⊥
   left-right q a b = omega (arith, a .0, b .0)
 
@@ -132,7 +122,7 @@ module _ (m : List ℕ) (w p : ℕ) (wide : 0 < w) where
   up-down : (q : ℕ) → U q → D q → ⊥
   up-down q a b = omega (arith, a .0, b .0)
 
-  -- they are the dark pixels that share an edge with p
+  -- what they face are the dark pixels that share an edge with p
   faces : (q : ℕ) → Touch w p q → Dark m q → ((L q ⊎ R q) ⊎ U q) ⊎ D q
   faces q (left e l) d = inl (inl (inl (omega arith, lt-ltb 0 (p % w) (right-of p q w e l), d)))
   faces q (right e l) d = inl (inl (inr (e, lt-ltb (p % w + 1) w l, d)))

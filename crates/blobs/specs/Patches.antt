@@ -62,8 +62,8 @@ light m q = 1 - ink m q
 unfoldable pub side : List ℕ → Bool → ℕ → ℕ
 side m there q = cond there (light m q) 1
 
--- [24.2] how many sides of the pixel p "face a light pixel or the picture's border": left, right, upper, lower (the
--- mask's length is that of whole rows of w). Sides says it by `Touch` and `Dark`
+-- [24.2] how many sides of the pixel p "face a light pixel or the picture's border": left, right, upper, lower. Sides
+-- says it by `Touch` and `Dark`
 unfoldable pub sides : List ℕ → ℕ → ℕ → ℕ
 sides m w p =
     side m (ltb 0 (p % w)) (p - 1) + side m (ltb (p % w + 1) w) (p + 1) + side m (leb w p) (p - w)
