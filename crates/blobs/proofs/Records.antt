@@ -146,18 +146,18 @@ module _ (l : List ℕ) (j : ℕ) (t : Blob) where
   pub stored-before : (k : ℕ) → k < j → patchAt (stored l j t) k ≡ patchAt l k
   unfolding stored patchAt
   stored-before k h =
-      let b = recordLength * j in
-      let o : (d : ℕ) → d < recordLength → getD (stored l j t) (recordLength * k + d) 0 ≡ getD l (recordLength * k + d) 0 =
-      λ d x. out l b (t .area) (t .sx) (t .sy) (t .x0) (t .y0) (t .x1) (t .y1) (t .outline) (recordLength * k + d) (omega arith) in
-      let e0 : getD (stored l j t) (recordLength * k) 0 ≡ getD l (recordLength * k) 0 = out l b (t .area) (t .sx) (t .sy) (t .x0) (t .y0) (t .x1) (t .y1) (t .outline) (recordLength * k) (omega arith) in
-      let e1 = o 1 (omega arith) in
-      let e2 = o 2 (omega arith) in
-      let e3 = o 3 (omega arith) in
-      let e4 = o 4 (omega arith) in
-      let e5 = o 5 (omega arith) in
-      let e6 = o 6 (omega arith) in
-      let e7 = o 7 (omega arith) in
-      λ i. record { area = e0 i; sx = e1 i; sy = e2 i; x0 = e3 i; y0 = e4 i; x1 = e5 i; y1 = e6 i; outline = e7 i }
+      let i = recordLength * k in
+      let o : (q : ℕ) → q < recordLength * j → getD (stored l j t) q 0 ≡ getD l q 0 =
+      out l (recordLength * j) (t .area) (t .sx) (t .sy) (t .x0) (t .y0) (t .x1) (t .y1) (t .outline) in
+      let e0 = o i (omega arith) in
+      let e1 = o (i + 1) (omega arith) in
+      let e2 = o (i + 2) (omega arith) in
+      let e3 = o (i + 3) (omega arith) in
+      let e4 = o (i + 4) (omega arith) in
+      let e5 = o (i + 5) (omega arith) in
+      let e6 = o (i + 6) (omega arith) in
+      let e7 = o (i + 7) (omega arith) in
+      λ z. record { area = e0 z; sx = e1 z; sy = e2 z; x0 = e3 z; y0 = e4 z; x1 = e5 z; y1 = e6 z; outline = e7 z }
 
   pub stored-rest : (n : ℕ) → j < n → drop (recordLength * n) (stored l j t) ≡ drop (recordLength * n) l
   unfolding stored

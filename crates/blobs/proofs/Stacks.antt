@@ -113,7 +113,8 @@ module _ (m : List ℕ) (w i : ℕ) (c : Scanned) where
   unfolding scan
   scan-list d u = pick-yes (eqb (at (c .seen) i) 0) _ c (eq-eqb (at (c .seen) i) 0 u) ∙ pick-no (eqb (at m i) 0) c _ (ne-eqb (at m i) 0 d)
 
-pub scan-stored : (m : List ℕ) (w i : ℕ) (s l : List ℕ) (n d : ℕ) (s′ : List ℕ) (b : Blob) (e d′ : ℕ) → (at m i ≡ 0 → ⊥) → at s i ≡ 0 → recordLength * (n + 1) ≤ length l
+pub scan-stored : (m : List ℕ) (w i : ℕ) (s l : List ℕ) (n d : ℕ) (s′ : List ℕ) (b : Blob) (e d′ : ℕ) → (at m i ≡ 0 → ⊥) → at s i ≡ 0
+    → recordLength * (n + 1) ≤ length l
     → flooding s′ [] b e ≡ flood m w i s → d′ ≡ max d e
     → scanned s′ (table (patchAt (stored l n b)) (n + 1)) d′ ≡ scan m w i (scanned s (table (patchAt l) n) d)
 scan-stored m w i s l n d s′ b e d′ dark u r fe de =
