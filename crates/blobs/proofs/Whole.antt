@@ -12,12 +12,14 @@ use Rattle.base.proofs.Table.{table-at, length-table}
 use Rattle.base.proofs.Parts.{filled-lent}
 use Rattle.blobs.specs.declared.Blob.{Blob}
 use Rattle.blobs.specs.Patches.{total, one, PatchOf, ink, recordLength, patchAt, Waited, PatchList}
-use Rattle.blobs.specs.Stack.{Scanned, scanned, scan, unmarked, scanAll}
+use Rattle.blobs.specs.Stack.{Scanned, scanned, scan, unmarked, scanAll, waitedOf}
+use Rattle.blobs.specs.Moments.{MostHeld}
 use Rattle.blobs.specs.Ready.{at, Sized}
 use Rattle.blobs.specs.Areas.{patchAreas}
 use Rattle.blobs.specs.Labels.{Labels}
 use Rattle.blobs.proofs.Sums.{total-same-f}
 use Rattle.blobs.proofs.Scans.{Scan, none, scan-turns, seen-all, seen-ink, scan-half, areas-ink, outlines-ink}
+use Rattle.blobs.proofs.Moments.{waited-most}
 
 -- the areas as the scan left them
 pub scan-at : {m : List ℕ} {w h : ℕ} → Sized m w h → (c : Scanned) (i : ℕ) → i ≤ length m → c ≡ turns i (scan m w) (unmarked m) → Scan m w c i
@@ -76,13 +78,17 @@ module _ {m : List ℕ} {w h : ℕ} (g : Sized m w h) (s k l s′ k′ l′ : Li
         marks = filled-is (ink m) s (w * h) 0 s′ (omega arith) s-long (λ q b. seen-ink v q) past;
         firsts = v .firsts;
         records = list long rest;
+        most-held = subst (MostHeld m w) (sym waited-is′) (waited-most g);
         waited-held = waited-held′;
         blobs = ap (λ (c : Scanned). c .blobs) e;
-        waited-is = ap (λ (c : Scanned). c .waited) e;
+        waited-is = waited-is′;
         waiting-long = kl′;
         waiting-rest = drop-of-length-le k′ {i = w * h} (omega arith) ∙ sym (drop-of-length-le k {i = w * h} (omega arith));
       }
     where
+      waited-is′ : d ≡ waitedOf m w
+      waited-is′ = ap (λ (c : Scanned). c .waited) e
+
       s-long : length s′ ≡ length s
       s-long = v .long ∙ g .size ∙ sym sl
 
@@ -98,6 +104,7 @@ labels-whole m w h s k l s′ k′ l′ n d sl kl a =
       marks = ap (λ b. b ++ drop (w * h) s) (a .marks) ∙ filled-lent (ink m) s (w * h) (w * h) (omega arith) sl;
       firsts = a .firsts;
       records = a .records;
+      most-held = a .most-held;
       waited-held = a .waited-held;
       blobs = a .blobs;
       waited-is = a .waited-is;

@@ -6,6 +6,7 @@ use lib.ListN.{length, drop}
 use Rattle.base.specs.Loops.{table, filled}
 use Rattle.blobs.specs.Patches.{ink, patchAt, Waited, PatchList}
 use Rattle.blobs.specs.Stack.{scanAll, waitedOf}
+use Rattle.blobs.specs.Moments.{MostHeld}
 use Rattle.blobs.specs.Areas.{PatchAreas}
 
 -- of a mask m, w by h: the areas at entry and at exit, n records, and the most pixels that waited
@@ -15,7 +16,9 @@ pub record Labels (m : List ℕ) (w h : ℕ) (before after : PatchAreas) (n wait
   -- [7.1, 7.3, 7.4] the patches by meaning; [3.2] records past the last stay as they were
   pub firsts : List ℕ
   pub records : PatchList m w (before .patches) (after .patches) n firsts
-  -- [7.5] 0 without dark pixels and otherwise from 1 to the largest area
+  -- [25.1, 25.6] the most that the search's stack ever holds, over all patches
+  pub most-held : MostHeld m w waited
+  -- [7.5] 0 without dark pixels and otherwise from 1 up; [25.5] the largest area remains an upper limit
   pub waited-held : Waited (after .patches) n waited
   -- [14.3] whatever the areas held before: records and maximum are functions of the mask
   pub blobs : table (patchAt (after .patches)) n ≡ scanAll m w .blobs

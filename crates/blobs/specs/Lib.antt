@@ -2,6 +2,7 @@
 pub mod Patches
 pub mod Sides
 pub mod Stack
+pub mod Moments
 pub mod Ready
 pub mod Areas
 pub mod Labels

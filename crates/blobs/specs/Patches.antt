@@ -123,8 +123,8 @@ stored l j b =
     set (set (set (set (set (set (set (set l i (b .area)) (i + 1) (b .sx)) (i + 2) (b .sy)) (i + 3) (b .x0)) (i + 4)
     (b .y0)) (i + 5) (b .x1)) (i + 6) (b .y1)) (i + 7) (b .outline)
 
--- [7.5] the highest number of pixels waiting: free, but 0 without dark pixels and otherwise from 1 to the largest
--- area
+-- [7.5, 25.5] limits of the highest number of pixels waiting: 0 without dark pixels, otherwise from 1 to the largest
+-- area. Which number it is Moments says
 abbrev pub Waited : List ℕ → ℕ → ℕ → Type 0
 Waited l n waited = ((n ≡ 0) × (waited ≡ 0)) ⊎ ((1 ≤ waited) × ((j : ℕ) × (j < n) × (waited ≤ patchAt l j .area)))
 

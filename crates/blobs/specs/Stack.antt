@@ -122,6 +122,6 @@ unmarked m = scanned (replicate (length m) 0) [] 0
 unfoldable pub scanAll : List ℕ → ℕ → Scanned
 scanAll m w = turns (length m) (scan m w) (unmarked m)
 
--- [7.5] the highest number of pixels waiting, of the mask alone
+-- [25.1] the highest number of pixels waiting, of the mask alone. What it means is in Moments
 abbrev pub waitedOf : List ℕ → ℕ → ℕ
 waitedOf m w = scanAll m w .waited

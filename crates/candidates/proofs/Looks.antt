@@ -111,6 +111,7 @@ module _ (img : Image) (f : FrameSpec) (a : Areas) (R : Ready img f a) where
         firsts = L .firsts;
         patches = L .records;
         candidates = C;
+        most-held = L .most-held;
         waited-held = L .waited-held;
         patches-are = L .blobs;
         waited-is = L .waited-is;

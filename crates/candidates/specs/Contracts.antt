@@ -10,6 +10,7 @@ use Rattle.sampling.specs.Luma.{lumaAt, lumaPlane}
 use Rattle.mask.specs.Mask.{integralEntry, maskEntry, maskPlane}
 use Rattle.blobs.specs.Patches.{patchAt, Waited, PatchList}
 use Rattle.blobs.specs.Stack.{scanAll, waitedOf}
+use Rattle.blobs.specs.Moments.{MostHeld}
 use Rattle.candidates.specs.Ring.{CandidateList}
 use Rattle.candidates.specs.Areas.{Areas, pixels, integralLength, lookTests}
 use Rattle.frame.specs.declared.FrameSpec.{FrameSpec}
@@ -31,7 +32,9 @@ pub record Looked (img : Image) (f : FrameSpec) (a b : Areas) (n k waited : ℕ)
   pub candidates :
       CandidateList (maskPlane img f) (lumaPlane img) (img .w) (img .h) (patchAt (b .patches)) n (a .candidates)
       (a .«blob_index») (b .candidates) (b .«blob_index») k
-  -- [7.5] the highest number of pixels waiting: 0 without dark pixels and otherwise from 1 to the largest area
+  -- [25.1, 25.6] the most that the search's stack ever holds, over all patches
+  pub most-held : MostHeld (maskPlane img f) (img .w) waited
+  -- [7.5] 0 without dark pixels and otherwise from 1 up; [25.5] the largest area remains an upper limit
   pub waited-held : Waited (b .patches) n waited
   -- [14.3] whatever the areas held before: the patch records and that number are functions of the mask
   pub patches-are : table (patchAt (b .patches)) n ≡ scanAll (maskPlane img f) (img .w) .blobs
