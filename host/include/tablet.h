@@ -102,7 +102,9 @@ enum {
 enum {
     TABLET_PATCHES = 0,
     TABLET_CANDIDATES = 1,
-    TABLET_WAITED = 2, /* the most pixels that waited at once */
+    TABLET_WAITED = 2, /* the most pixels that waited at once, over all patches, as the original's stack holds them: the newest is
+                        * taken first; its neighbours go on left, right, up, down, where dark and not yet marked, and are marked
+                        * then; a patch's first pixel counts as one waiting */
     TABLET_PLACE_TL = 3, /* the four corners' places in patches */
     TABLET_PLACE_TR = 4,
     TABLET_PLACE_BR = 5,
@@ -181,7 +183,7 @@ uint32_t tablet_fiducial_candidates(const uint8_t *capture, size_t capture_len, 
                                     uint64_t *counts, size_t counts_len);
 
 /* The patches of a mask, exactly w * h bytes, any nonzero byte dark; seen becomes 1 where dark, else 0. 2, 3.
- * counts: TABLET_LABELLED_LEN, number of patches and most pixels that waited. */
+ * counts: TABLET_LABELLED_LEN, number of patches and the most pixels that waited at once, as TABLET_WAITED. */
 uint32_t tablet_label_blobs(const uint8_t *mask, size_t mask_len, size_t w, size_t h,
                             uint8_t *seen, size_t seen_len, uint32_t *waiting, size_t waiting_len,
                             uint64_t *patches, size_t patches_len, uint64_t *counts, size_t counts_len);

@@ -66,7 +66,8 @@ pub(crate) fn answer(
         }
     }
     first(b"mask", mask, s.pixels);
-    lists(patches, r.patches, candidates, blob_index, r.candidates);
+    patch_list(patches, r.patches, r.waited);
+    candidate_list(candidates, blob_index, r.candidates);
     if number == 0 {
         flat(r);
         first(b"canonical", canonical, s.bytes);
@@ -103,11 +104,17 @@ fn first(word: &[u8], b: &[u8], n: usize) {
     line(word, &s);
 }
 
-// The n patches and the k candidates.
-fn lists(patches: &[u64], n: usize, candidates: &[f64], blob_index: &[u32], k: usize) {
+// The n patches, and the most pixels that waited.
+fn patch_list(patches: &[u64], n: usize, waited: usize) {
     let end = RECORD_LENGTH * min(n, patches.len() / RECORD_LENGTH);
     let records = [n as u64, vectors::sum::of_numbers(&patches[..end])];
     line(b"patches", &records);
+    let most = [waited as u64];
+    line(b"waited", &most);
+}
+
+// The k candidates.
+fn candidate_list(candidates: &[f64], blob_index: &[u32], k: usize) {
     let count = [k as u64];
     line(b"candidates", &count);
     let most = min(k, min(candidates.len() / 4, blob_index.len()));

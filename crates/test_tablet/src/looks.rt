@@ -1,5 +1,4 @@
-// The functions that look at the whole capture, each with areas of its own. The number of waiting
-// pixels is not the original's, and is not printed.
+// The functions that look at the whole capture, each with areas of its own.
 use super::print::all_bytes;
 use super::print::bytes;
 use super::print::floats;
@@ -43,8 +42,7 @@ pub(crate) fn rectify(capture: &[u8; 43008]) {
         &mut fit,
     );
     word(r as u64);
-    words(&counts, 0, 2);
-    words(&counts, 3, 12);
+    words(&counts, 0, 12);
     floats(&fit, 0, 14);
     looked(
         &luma,
@@ -91,8 +89,7 @@ pub(crate) fn fit_geometry(capture: &[u8; 43008]) {
         &mut fit,
     );
     word(r as u64);
-    words(&counts, 0, 2);
-    words(&counts, 3, 11);
+    words(&counts, 0, 11);
     floats(&fit, 0, 14);
     looked(
         &luma,
@@ -136,8 +133,7 @@ pub(crate) fn detect_fiducials(capture: &[u8; 43008]) -> [f64; 8] {
         &mut points,
     );
     word(r as u64);
-    words(&counts, 0, 2);
-    words(&counts, 3, 7);
+    words(&counts, 0, 7);
     floats(&points, 0, 8);
     looked(
         &luma,
@@ -180,7 +176,7 @@ pub(crate) fn fiducial_candidates(capture: &[u8; 43008]) {
         &mut counts,
     );
     word(r as u64);
-    words(&counts, 0, 2);
+    words(&counts, 0, 3);
     looked(
         &luma,
         &integral,
@@ -210,7 +206,7 @@ fn label_blobs(mask: &[u8; 14336]) {
         &mut counts,
     );
     word(r as u64);
-    words(&counts, 0, 1);
+    words(&counts, 0, 2);
     bytes(&seen, 112);
     words(&patches, 0, 16);
 }

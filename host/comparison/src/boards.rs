@@ -1,4 +1,5 @@
-//! The checkerboard, which the original does not have, against its formula; and its patches, which the library and the original list.
+//! The checkerboard, which the original does not have, against its formula; and its patches and how many pixels waited for them,
+//! which the library and the original tell.
 
 use crate::original;
 use flatten::ffi::{self, PATCH_LEN};
@@ -47,13 +48,17 @@ fn listed(w: usize, h: usize, mask: &[u8]) -> Result<(), String> {
     if number != 3 || patches.iter().any(|&n| n != 9) {
         return Err(format!("with a number less for patch records: refusal {number}, or they were touched"));
     }
-    let (number, [count, _]) = label(&mut patches);
+    let (number, [count, waited]) = label(&mut patches);
     if (number, count) != (0, most as u64) {
         return Err(format!("refusal {number}, {count} patches, they are {most}"));
     }
     let theirs = original::records(mask, w, h);
     if theirs.len() != most {
         return Err(format!("the original has {} patches, they are {most}", theirs.len()));
+    }
+    match original::waited(mask, w, h) {
+        n if n as u64 == waited => {}
+        n => return Err(format!("{waited} pixels waited, on the original's stack {n}")),
     }
     match patches.chunks_exact(PATCH_LEN).zip(&theirs).position(|(a, b)| a != b) {
         None => Ok(()),

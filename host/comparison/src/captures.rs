@@ -1,7 +1,7 @@
-//! One capture on both sides: all that demand 2 names, planes and lists too.
+//! One capture on both sides: all that demand 2 names, planes, lists and the number of waiting pixels too.
 
 use crate::direct::graded;
-use crate::original::{self as o, Answer, Flat, Record};
+use crate::original::{self as o, Answer, Flat, Look};
 use crate::{bits, pages, Case, Memory};
 use flatten::ffi;
 use std::fmt::Debug;
@@ -22,14 +22,14 @@ fn each<T: Copy, B: PartialEq + Debug>(what: &str, ours: &[T], theirs: &[T], bit
     }
 }
 
-/// Planes, marks and lists.
+/// Planes, marks, lists and their numbers, and that of the pixels that waited.
 fn looked(m: &Memory, counts: &[u64], a: &Answer) -> Result<(), String> {
     let look = a.look.as_ref().ok_or("the original did not look at the picture")?;
     each("luma", &m.luma, &look.luma, f32::to_bits)?;
     each("integral", &m.integral, &look.integral, bits)?;
     each("mask", &m.mask, &look.mask, |b| b)?;
     each("marks", &m.seen, &look.mask, |b| b)?;
-    listed(&m.patches, counts[ffi::PATCHES], counts[ffi::WAITED], &look.patches)?;
+    listed(&m.patches, counts[ffi::PATCHES], counts[ffi::WAITED], look)?;
     let k = counts[ffi::CANDIDATES] as usize;
     eq("number of candidates", k, look.candidates.len())?;
     each("candidates", &m.candidates[..4 * k], look.candidates.as_flattened(), bits)?;
@@ -39,14 +39,12 @@ fn looked(m: &Memory, counts: &[u64], a: &Answer) -> Result<(), String> {
     pages::check(&m.candidates, k, 37 * k + 1).map_err(|e| format!("candidate_page: {e}"))
 }
 
-fn listed(ours: &[u64], count: u64, waited: u64, theirs: &[Record]) -> Result<(), String> {
+/// The number that waited is the original's own; the list itself is free.
+fn listed(ours: &[u64], count: u64, waited: u64, look: &Look) -> Result<(), String> {
+    let theirs = &look.patches;
     eq("number of patches", count as usize, theirs.len())?;
     each("patches", &ours[..ffi::PATCH_LEN * theirs.len()], theirs.as_flattened(), |n| n)?;
-    let largest = theirs.iter().map(|p| p[0]).max().unwrap_or(0);
-    if waited > largest || (waited == 0) != theirs.is_empty() {
-        return Err(format!("{waited} waited, and the largest area is {largest}"));
-    }
-    Ok(())
+    eq("number of pixels that waited", waited as usize, look.waited)
 }
 
 /// What is told of a search whose kept trial has no score.
@@ -105,50 +103,75 @@ pub fn check(c: &Case) -> Result<u32, String> {
     Ok(number)
 }
 
-/// fiducial_candidates, detect_fiducials, fit_geometry, label_blobs, grid_score, warp_with and warp_record.
+/// fiducial_candidates, detect_fiducials, fit_geometry, label_blobs, grid_score, warp_with and warp_record, each in memory of its
+/// own, so that none is compared by what another has left.
 fn others(c: &Case, a: &Answer) -> Result<(), String> {
-    let look_number = if a.number >= 7 { 0 } else { a.number };
-    let mut m = Memory::new(c.w, c.h, c.frame);
-    let mut counts = [77; ffi::COUNTS_LEN];
-    let number = ffi::fiducial_candidates(&c.data, c.w, c.h, c.frame, &mut m.lend().0, &mut counts[..ffi::LISTED_LEN]);
-    eq("fiducial_candidates", number, look_number)?;
-    if number == 0 {
-        looked(&m, &counts, a).map_err(|e| format!("fiducial_candidates: {e}"))?;
-    }
-
-    let mut points = [f64::NAN; ffi::POINTS_LEN];
-    let number = ffi::detect_fiducials(&c.data, c.w, c.h, c.frame, &mut m.lend().0, &mut counts[..ffi::DETECTED_LEN], &mut points);
-    eq("detect_fiducials", number, if a.number == 10 { 0 } else { a.number })?;
-    if let Some(found) = &a.found {
-        each("detected corners", &counts[ffi::PLACES..ffi::PLACES + 4], &found.corners.map(|p| p as u64), |p| p)?;
-        each("detected points", &points, found.points.as_flattened(), bits)?;
-    }
-
-    let mut fit = [f64::NAN; ffi::SCORED_FIT_LEN];
-    let (mut areas, means, _) = m.lend();
-    let number = ffi::fit_geometry(&c.data, c.w, c.h, c.frame, &mut areas, means, &mut counts, &mut fit);
-    eq("fit_geometry", number, a.number)?;
-    eq("fit_geometry's twelfth count", counts[ffi::BEYOND], 77)?;
-    if a.flat.is_some() {
-        fitted(&counts, &fit, c, a).map_err(|e| format!("fit_geometry: {e}"))?;
-    }
+    listing(c, a).map_err(|e| format!("fiducial_candidates: {e}"))?;
+    detecting(c, a).map_err(|e| format!("detect_fiducials: {e}"))?;
+    fitting(c, a).map_err(|e| format!("fit_geometry: {e}"))?;
     if let Some(look) = &a.look {
-        looked(&m, &counts, a).map_err(|e| format!("fit_geometry: {e}"))?;
-        // Any nonzero byte is dark.
-        let mask: Vec<u8> = look.mask.iter().enumerate().map(|(i, &d)| d * (1 + (i % 255) as u8)).collect();
-        let number = ffi::label_blobs(&mask, c.w, c.h, &mut m.seen, &mut m.waiting, &mut m.patches, &mut counts[..ffi::LABELLED_LEN]);
-        eq("label_blobs", number, 0)?;
-        listed(&m.patches, counts[0], counts[1], &look.patches).map_err(|e| format!("label_blobs: {e}"))?;
-        each("label_blobs' marks", &m.seen, &look.mask, |b| b)?;
+        labelling(c, look).map_err(|e| format!("label_blobs: {e}"))?;
     }
     match &a.flat {
-        Some(flat) => under_the_fit(c, flat, a.rectify_number(), &mut m),
+        Some(flat) => under_the_fit(c, flat, a.rectify_number()),
         None => Ok(()),
     }
 }
 
+fn listing(c: &Case, a: &Answer) -> Result<(), String> {
+    let (mut m, mut counts) = (Memory::new(c.w, c.h, c.frame), [77; ffi::LISTED_LEN]);
+    let number = ffi::fiducial_candidates(&c.data, c.w, c.h, c.frame, &mut m.lend().0, &mut counts);
+    eq("refusal", number, if a.number >= 7 { 0 } else { a.number })?;
+    if number == 0 {
+        looked(&m, &counts, a)?;
+    }
+    Ok(())
+}
+
+/// After its refusals by 7 to 9 areas and counts are the original's too, and there are no corners.
+fn detecting(c: &Case, a: &Answer) -> Result<(), String> {
+    let (mut m, mut counts) = (Memory::new(c.w, c.h, c.frame), [77; ffi::DETECTED_LEN]);
+    let mut points = [f64::NAN; ffi::POINTS_LEN];
+    let number = ffi::detect_fiducials(&c.data, c.w, c.h, c.frame, &mut m.lend().0, &mut counts, &mut points);
+    eq("refusal", number, if a.number == 10 { 0 } else { a.number })?;
+    if a.look.is_some() {
+        looked(&m, &counts, a)?;
+        let corners = a.found.as_ref().map_or([0; 4], |found| found.corners.map(|p| p as u64));
+        each("corners", &counts[ffi::PLACES..], &corners, |p| p)?;
+    }
+    let theirs = a.found.as_ref().map_or(&[[f64::NAN; 2]; 4], |found| &found.points);
+    each("points", &points, theirs.as_flattened(), bits)
+}
+
+fn fitting(c: &Case, a: &Answer) -> Result<(), String> {
+    let (mut m, mut counts) = (Memory::new(c.w, c.h, c.frame), [77; ffi::COUNTS_LEN]);
+    let mut fit = [f64::NAN; ffi::SCORED_FIT_LEN];
+    let (mut areas, means, _) = m.lend();
+    let number = ffi::fit_geometry(&c.data, c.w, c.h, c.frame, &mut areas, means, &mut counts, &mut fit);
+    eq("refusal", number, a.number)?;
+    eq("twelfth count", counts[ffi::BEYOND], 77)?;
+    if a.look.is_some() {
+        looked(&m, &counts, a)?;
+    }
+    if a.flat.is_some() {
+        fitted(&counts, &fit, c, a)?;
+    }
+    Ok(())
+}
+
+fn labelling(c: &Case, look: &Look) -> Result<(), String> {
+    let (mut m, mut counts) = (Memory::new(c.w, c.h, c.frame), [77; ffi::LABELLED_LEN]);
+    // Any nonzero byte is dark.
+    let mask: Vec<u8> = look.mask.iter().enumerate().map(|(i, &d)| d * (1 + (i % 255) as u8)).collect();
+    let number = ffi::label_blobs(&mask, c.w, c.h, &mut m.seen, &mut m.waiting, &mut m.patches, &mut counts);
+    eq("refusal", number, 0)?;
+    listed(&m.patches, counts[0], counts[1], look)?;
+    each("marks", &m.seen, &look.mask, |b| b)
+}
+
 /// grid_score, warp_with and warp_record of the original's fit.
-fn under_the_fit(c: &Case, flat: &Flat, of_record: u32, m: &mut Memory) -> Result<(), String> {
+fn under_the_fit(c: &Case, flat: &Flat, of_record: u32) -> Result<(), String> {
+    let mut m = Memory::new(c.w, c.h, c.frame);
     let (mut grade, mut score, mut beyond) = ([77; 2], [f64::NAN], [77; ffi::WARPED_LEN]);
     let number = ffi::grid_score(&c.data, c.w, c.h, c.frame, &flat.fit, &mut m.means, &mut grade, &mut score);
     eq("grid_score", number, 0)?;

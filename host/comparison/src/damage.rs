@@ -546,8 +546,25 @@ fn counted(c: &Call, told: u64, fit: &[f64]) -> Result<(), String> {
     }
 }
 
+/// The records of LabelBlobs and the number of pixels that waited.
+fn labelled(c: &Call) -> Result<(), String> {
+    let (mask, w, h) = (&c.memory.mask, c.case.w, c.case.h);
+    let records = original::records(mask, w, h);
+    let ours: Vec<&[u64]> = c.memory.patches.chunks_exact(ffi::PATCH_LEN).take(c.counts[0] as usize).collect();
+    if ours.len() != records.len() {
+        return Err(format!("{} patches, they are {}", ours.len(), records.len()));
+    }
+    if let Some(j) = (0..ours.len()).find(|&j| ours[j] != records[j]) {
+        return Err(format!("patch {j}: {:?}, it is {:?}", ours[j], records[j]));
+    }
+    match original::waited(mask, w, h) {
+        n if n as u64 == c.counts[1] => Ok(()),
+        n => Err(format!("{} pixels are told to have waited, they are {n}", c.counts[1])),
+    }
+}
+
 /// What an accepted call wrote: of Rectify and the warps the pixels beyond the edge, of Bilinear whether its place is inside, of
-/// LabelBlobs the records, of Checkerboard, Lengths and CandidatePage all.
+/// LabelBlobs the records and how many waited, of Checkerboard, Lengths and CandidatePage all.
 fn answered(c: &Call) -> Result<(), String> {
     match c.function {
         Function::Rectify => counted(c, c.counts[ffi::BEYOND], &c.numbers)?,
@@ -558,16 +575,7 @@ fn answered(c: &Call) -> Result<(), String> {
                 return Err(format!("inside is {}, it is {inside}", c.colour[3]));
             }
         }
-        Function::LabelBlobs => {
-            let records = original::records(&c.memory.mask, c.case.w, c.case.h);
-            let ours: Vec<&[u64]> = c.memory.patches.chunks_exact(ffi::PATCH_LEN).take(c.counts[0] as usize).collect();
-            if ours.len() != records.len() {
-                return Err(format!("{} patches, they are {}", ours.len(), records.len()));
-            }
-            if let Some(j) = (0..ours.len()).find(|&j| ours[j] != records[j]) {
-                return Err(format!("patch {j}: {:?}, it is {:?}", ours[j], records[j]));
-            }
-        }
+        Function::LabelBlobs => labelled(c)?,
         Function::Checkerboard => {
             let (w, mask) = (c.case.w, &c.memory.mask);
             if let Some(i) = (0..w * c.case.h).find(|&i| mask[i] != boards::square(w, i)) {

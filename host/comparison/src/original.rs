@@ -46,6 +46,8 @@ pub struct Look {
     pub integral: Vec<f64>,
     pub mask: Vec<u8>,
     pub patches: Vec<Record>,
+    /// The most pixels that its stack held.
+    pub waited: usize,
     /// Centre x, centre y, score, size.
     pub candidates: Vec<[f64; 4]>,
     pub places: Vec<usize>,
@@ -111,10 +113,19 @@ pub fn luma_plane(w: usize, h: usize, data: &[u8]) -> Vec<f32> {
     inner::luma_plane(&lpcorepub::image::RgbImage { w, h, data: data.to_vec() })
 }
 
-/// The patches of a mask, any nonzero byte dark.
+/// Any nonzero byte is dark.
+fn dark(mask: &[u8]) -> Vec<bool> {
+    mask.iter().map(|&b| b != 0).collect()
+}
+
+/// The patches of a mask.
 pub fn records(mask: &[u8], w: usize, h: usize) -> Vec<Record> {
-    let dark: Vec<bool> = mask.iter().map(|&b| b != 0).collect();
-    patches::records(&dark, w, h)
+    patches::records(&dark(mask), w, h)
+}
+
+/// The most pixels of a mask that its stack held.
+pub fn waited(mask: &[u8], w: usize, h: usize) -> usize {
+    patches::waited(&dark(mask), w, h)
 }
 
 fn look(case: &Case, img: &RgbImage, marker: f64) -> Look {
@@ -144,6 +155,7 @@ fn look(case: &Case, img: &RgbImage, marker: f64) -> Look {
         integral: integral(&luma, w, h),
         mask: mask.iter().map(|&d| d as u8).collect(),
         patches: patches::with_outlines(&blobs, &mask, w, h),
+        waited: patches::waited(&mask, w, h),
         luma,
         candidates,
         places,

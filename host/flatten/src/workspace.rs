@@ -323,7 +323,8 @@ impl Workspace {
         Ok(page)
     }
 
-    /// The most pixels that waited at once while patches were traced.
+    /// The most pixels that the search's stack ever held, over all patches: exactly the original's. A patch's first pixel counts as
+    /// one, the largest area is an upper limit, and without a patch it is 0.
     pub fn waited(&self) -> usize {
         self.count(ffi::WAITED)
     }

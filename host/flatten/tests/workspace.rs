@@ -104,10 +104,32 @@ fn patches_of_a_mask() {
     let one = |x: u64, y: u64| Patch { area: 1, sum_x: x, sum_y: y, x0: x, y0: y, x1: x, y1: y, outline: 4 };
     let three = Patch { area: 3, sum_x: 1, sum_y: 2, x0: 0, y0: 0, x1: 1, y1: 1, outline: 8 };
     assert_eq!(found, [three, one(4, 0), one(3, 1), one(4, 3)]);
-    assert!(ws.candidates().len() == 0 && (1..=3).contains(&ws.waited()));
+    // Never two: a pixel that is taken has at most one dark neighbour that is not yet marked.
+    assert_eq!((ws.candidates().len(), ws.waited()), (0, 1));
     // After a refusal there is nothing to read.
     assert_eq!(ws.label_blobs(&mask[1..]).map_err(Refusal::number), Err(2));
     assert_eq!(ws.patches().len(), 0);
+}
+
+/// The numbers are what the original's stack says, with its pushes counted (host/oracle/prepare).
+#[test]
+fn waited_as_on_the_originals_stack() {
+    let masks: [(&[&str], usize); 4] = [
+        // A tooth is newer than the row's next pixel, and done first. With up before right teeth would wait for the row's end: 3.
+        (&["#.#.#.#", "#######"], 2),
+        // The right arm is done before the left one forks. With right before left it would wait beside the fork: 3.
+        (&["..#..", "#.#..", "#####", "#...."], 2),
+        // And so the lower arm before the upper one forks. With down before up: 3.
+        (&["#.#.", "#.##", "###.", "..#."], 2),
+        // That of the first patch, whose area is 9; the last has 1.
+        (&["###.#", "###..", "###.#"], 3),
+    ];
+    for (rows, waited) in masks {
+        let mask: Vec<u8> = rows.concat().bytes().map(|c| u8::from(c == b'#')).collect();
+        let mut ws = Workspace::new(rows[0].len(), rows.len(), SMALL).unwrap();
+        ws.label_blobs(&mask).unwrap();
+        assert_eq!(ws.waited(), waited, "{rows:?}");
+    }
 }
 
 /// Outlines, in the order of the patches; the first two masks are M7 and M8 of docs/REQUIREMENTS.md, 24.4.

@@ -1,5 +1,6 @@
 //! What the generators share; `patches` serves the comparison too.
 
+pub mod masks;
 pub mod patches;
 pub mod pictures;
 pub mod stages;

@@ -1,7 +1,9 @@
 //! Patch records with the outline, a number that the original does not have. Patches are put together here from pairs of
-//! neighbours, and not traced from a first pixel, as the original and the port do it.
+//! neighbours, and not traced from a first pixel, as the original and the port do it. The number of waiting pixels, which the
+//! original does not tell, is that of its own stack, as host/oracle/prepare has it counted.
 
 use lpcorepub::geometry::{label_blobs, Blob};
+use lpcorestack::geometry::{self as counted, WAITED};
 
 /// Area, sum of x, sum of y, x0, y0, x1, y1, outline.
 pub const PATCH_LEN: usize = 8;
@@ -117,6 +119,16 @@ pub fn with_outlines(blobs: &[Blob], dark: &[bool], w: usize, h: usize) -> Vec<R
 
 pub fn records(dark: &[bool], w: usize, h: usize) -> Vec<Record> {
     with_outlines(&label_blobs(dark, w, h), dark, w, h)
+}
+
+/// The most pixels that the stack of the original's `label_blobs` ever held, over all patches of a mask. The largest area is an
+/// upper limit, and without a patch it is 0.
+pub fn waited(dark: &[bool], w: usize, h: usize) -> usize {
+    WAITED.set(0);
+    let blobs = counted::label_blobs(dark, w, h);
+    let (waited, largest) = (WAITED.get(), blobs.iter().map(|b| b.area as usize).max().unwrap_or(0));
+    assert!(waited <= largest && (waited == 0) == blobs.is_empty(), "{waited} waited, the largest area of {w} by {h} is {largest}");
+    waited
 }
 
 /// A record as the programs print it.

@@ -15,6 +15,7 @@
 //!   refusal NUMBER                     that of rectify: 16 where the fit that it laid the card by has no score; 5 and 6 end the block
 //!   mask SUM
 //!   patches COUNT SUM                  the sum goes over all records, eight numbers each
+//!   waited COUNT                       the most pixels that the stack of label_blobs held
 //!   candidates COUNT                   then a line each:
 //!   X Y SCORE SIZE PLACE
 //!   corners TL TR BR BL                places in the patch list; 7 to 10 end the block before this line. After 16 this and what
@@ -52,6 +53,7 @@ fn answer(n: usize, c: &Case) -> String {
     if let Some(l) = a.look {
         let _ = writeln!(o, "mask {}", sum(l.mask.iter().map(|&b| b as u64)));
         let _ = writeln!(o, "patches {} {}", l.patches.len(), sum(l.patches.iter().flatten().copied()));
+        let _ = writeln!(o, "waited {}", l.waited);
         let _ = writeln!(o, "candidates {}", l.candidates.len());
         for (c, place) in l.candidates.iter().zip(&l.places) {
             let _ = writeln!(o, "{} {place}", floats(c));

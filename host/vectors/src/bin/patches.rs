@@ -5,22 +5,10 @@
 //! docs/REQUIREMENTS.md, 7 and 24.
 
 use std::fs;
+use vectors::masks::{comb_down, comb_up, mask, mixed, rows, spiral, Mask};
 use vectors::patches::{line, records};
-use vectors::Random;
 
 const REFUSED: &str = "refused 2\n";
-
-/// A mask from its letters.
-struct Mask {
-    w: usize,
-    h: usize,
-    dark: Vec<bool>,
-}
-
-fn mask(w: usize, h: usize, dark: impl Fn(usize, usize) -> bool) -> Mask {
-    let dark = (0..w * h).map(|i| dark(i % w, i / w)).collect();
-    Mask { w, h, dark }
-}
 
 fn text(m: &Mask) -> Vec<u8> {
     let mut t = Vec::new();
@@ -40,35 +28,6 @@ fn listing(m: &Mask) -> String {
     records.iter().fold(head, |text, r| text + &line(r))
 }
 
-/// A line that winds inward, one pixel wide, one apart.
-fn spiral(n: usize) -> Mask {
-    let mut dark = vec![false; n * n];
-    let (mut x, mut y, mut dx, mut dy) = (0i64, 0i64, 1i64, 0i64);
-    let at = |dark: &Vec<bool>, x: i64, y: i64| x >= 0 && y >= 0 && x < n as i64 && y < n as i64 && dark[y as usize * n + x as usize];
-    let inside = |x: i64, y: i64| x >= 0 && y >= 0 && x < n as i64 && y < n as i64;
-    loop {
-        dark[y as usize * n + x as usize] = true;
-        let free = |dx: i64, dy: i64| inside(x + dx, y + dy) && !at(&dark, x + dx, y + dy) && !at(&dark, x + 2 * dx, y + 2 * dy);
-        if !free(dx, dy) {
-            let (ex, ey) = (-dy, dx);
-            if !free(ex, ey) {
-                break;
-            }
-            (dx, dy) = (ex, ey);
-        }
-        x += dx;
-        y += dy;
-    }
-    Mask { w: n, h: n, dark }
-}
-
-/// Letters at random, dark `k` times in eight.
-fn mixed(w: usize, h: usize, k: u64, seed: u64) -> Mask {
-    let mut random = Random(seed);
-    let dark = (0..w * h).map(|_| random.next() >> 61 < k).collect();
-    Mask { w, h, dark }
-}
-
 /// An input of `test_patches`, by the name of its file, and what is printed for it.
 struct Case {
     name: &'static str,
@@ -77,32 +36,31 @@ struct Case {
 }
 
 fn accepted() -> Vec<(&'static str, Mask)> {
-    let from = |rows: &[&str]| mask(rows[0].len(), rows.len(), |x, y| rows[y].as_bytes()[x] == b'#');
     vec![
-        ("m7", from(&["#.#", ".#.", "##."])),
-        ("m8", from(&["#.#", "#.#", "###"])),
-        ("one_dark", from(&["#"])),
-        ("one_light", from(&["."])),
-        ("one_row", from(&["##.."])),
-        ("one_column", from(&["#", ".", "#"])),
+        ("m7", rows(&["#.#", ".#.", "##."])),
+        ("m8", rows(&["#.#", "#.#", "###"])),
+        ("one_dark", rows(&["#"])),
+        ("one_light", rows(&["."])),
+        ("one_row", rows(&["##.."])),
+        ("one_column", rows(&["#", ".", "#"])),
         // joins of U shapes, upside down and on their sides; nested; a row's end and the next row's start
-        ("u_upside_down", from(&["###", "#.#", "#.#"])),
-        ("u_open_right", from(&["###", "#..", "###"])),
-        ("u_open_left", from(&["###", "..#", "###"])),
-        ("u_nested", from(&["#.#.#", "#.#.#", "#.#.#", "#...#", "#####"])),
-        ("row_end", from(&["..#", "#.."])),
-        ("row_end_two", from(&["...##", "##..."])),
+        ("u_upside_down", rows(&["###", "#.#", "#.#"])),
+        ("u_open_right", rows(&["###", "#..", "###"])),
+        ("u_open_left", rows(&["###", "..#", "###"])),
+        ("u_nested", rows(&["#.#.#", "#.#.#", "#.#.#", "#...#", "#####"])),
+        ("row_end", rows(&["..#", "#.."])),
+        ("row_end_two", rows(&["...##", "##..."])),
         // holes, whose sides count too: a light one, one with a dark pixel inside, two in one patch
-        ("ring", from(&["###", "#.#", "###"])),
-        ("ring_around_dark", from(&["#####", "#...#", "#.#.#", "#...#", "#####"])),
-        ("ring_of_two_holes", from(&[".......", ".#####.", ".#.#.#.", ".#####."])),
+        ("ring", rows(&["###", "#.#", "###"])),
+        ("ring_around_dark", rows(&["#####", "#...#", "#.#.#", "#...#", "#####"])),
+        ("ring_of_two_holes", rows(&[".......", ".#####.", ".#.#.#.", ".#####."])),
         // the largest
         ("full", mask(64, 64, |_, _| true)),
         ("light", mask(64, 64, |_, _| false)),
         ("checkerboard", mask(64, 64, |x, y| (x + y) % 2 == 0)),
         ("spiral", spiral(64)),
-        ("comb_up", mask(64, 64, |x, y| y == 63 || x % 2 == 0)),
-        ("comb_down", mask(64, 3, |x, y| y == 0 || x % 2 == 0)),
+        ("comb_up", comb_up(64, 64)),
+        ("comb_down", comb_down(64, 3)),
         ("row_64", mask(64, 1, |x, _| x % 3 != 0)),
         ("column_64", mask(1, 64, |_, y| y % 3 != 0)),
         ("full_row_64", mask(64, 1, |_, _| true)),

@@ -5,10 +5,10 @@
 // stdin is the capture's bytes. stdout has the answers' words, one a line, in hexadecimal: each call's refusal number, and
 // then what it wrote; of luma, which is never refused, the pattern. Of the areas some entries are printed, of bytes every
 // sixteenth word of eight, of the candidate page, the book of fits and the checkerboard all. The number of waiting pixels
-// is not the original's, and left out. The smallest lengths are those of docs/REQUIREMENTS.md, 3.1. The original has no
-// candidate page: its text is made here, from the original's candidates. Nor has it a book of fits, whose bytes are made
-// here by to_le_bytes, or a checkerboard, which is a formula here. Pixels beyond the picture's edge are counted here, by
-// its `map` and `vectors::inside`, and the outlines of patches by `vectors::patches`.
+// is the most that the original's stack held, by `vectors::patches`. The smallest lengths are those of docs/REQUIREMENTS.md,
+// 3.1. The original has no candidate page: its text is made here, from the original's candidates. Nor has it a book of fits,
+// whose bytes are made here by to_le_bytes, or a checkerboard, which is a formula here. Pixels beyond the picture's edge are
+// counted here, by its `map` and `vectors::inside`, and the outlines of patches by `vectors::patches`.
 use lpcorepub::frame::FrameSpec;
 use lpcorepub::geometry::{
     adaptive_black_mask, bilinear, detect_fiducials, fiducial_candidates, fit_for, fit_geometry, grid_score, luma_plane, margin_for,
@@ -16,7 +16,7 @@ use lpcorepub::geometry::{
     GeometryFit, Homography, Radial,
 };
 use lpcorepub::image::RgbImage;
-use vectors::patches::{records, Record, PATCH_LEN};
+use vectors::patches::{records, waited, Record, PATCH_LEN};
 use vectors::pictures::{card, frame, integral_of, outside, photograph, put_fit, sampled};
 use vectors::stages::{searched, Points};
 use vectors::{beyond, inside, Random, Vectors};
@@ -66,6 +66,7 @@ struct Look {
     integral: Vec<f64>,
     mask: Vec<u8>,
     patches: Vec<Record>,
+    waited: usize,
     candidates: Vec<Candidate>,
     places: Vec<usize>,
 }
@@ -80,11 +81,11 @@ fn look(img: &RgbImage, f: &FrameSpec) -> Look {
     let (marker, _) = marker_layout(f).unwrap();
     let radius = (marker as usize / 3).clamp(8, img.w.min(img.h) / 4);
     let dark = adaptive_black_mask(&luma, img.w, img.h, radius, 8.0);
-    let patches = records(&dark, img.w, img.h);
+    let (patches, waited) = (records(&dark, img.w, img.h), waited(&dark, img.w, img.h));
     let candidates = fiducial_candidates(img, f);
     let places = candidates.iter().map(|c| place(&patches, c.center)).collect();
     let integral = integral_of(&luma, img.w, img.h);
-    Look { luma, integral, mask: dark.iter().map(|d| *d as u8).collect(), patches, candidates, places }
+    Look { luma, integral, mask: dark.iter().map(|d| *d as u8).collect(), patches, waited, candidates, places }
 }
 
 fn patch(v: &mut Vectors, r: &Record) {
@@ -110,7 +111,7 @@ fn looked(v: &mut Vectors, l: &Look) {
 }
 
 fn counted(v: &mut Vectors, l: &Look) {
-    words(v, &[l.patches.len(), l.candidates.len()]);
+    words(v, &[l.patches.len(), l.candidates.len(), l.waited]);
 }
 
 fn corners(v: &mut Vectors, l: &Look, points: &Points) {
@@ -229,7 +230,7 @@ fn pictures(v: &mut Vectors, img: &RgbImage, f: &FrameSpec) {
     looked(v, &l);
 
     // the patches of that mask
-    words(v, &[0, l.patches.len()]);
+    words(v, &[0, l.patches.len(), l.waited]);
     bytes(v, &l.mask);
     for r in &l.patches[..2] {
         patch(v, r);
