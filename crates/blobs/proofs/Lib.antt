@@ -10,6 +10,7 @@ pub mod Pairs
 pub mod Scans
 pub mod Records
 pub mod Stacks
+pub mod Visits
 pub mod Moments
 pub mod Whole
 pub mod Unique

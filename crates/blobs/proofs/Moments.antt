@@ -1,30 +1,28 @@
--- The number that labelling reports is the most that the search's stack ever holds: every moment of the search is one of the functions
--- of Stack, and the other way round. Assumes nothing.
-use Prim.Native.Nat.{ℕ, zero, suc, _+_, _-_, _%_, _≤_, _<_, max}
-use native.Mathlib.Decide.{decLt}
+-- The number that labelling reports is the most that the search's stack ever holds: the functions of Stack go through moments of the
+-- search, and through every moment that there is. Assumes nothing.
+use Prim.Native.Nat.{ℕ, zero, suc, _≤_, _<_, max}
+use native.Mathlib.Decide.{decLt, ℕ-discrete}
 use native.Mathlib.Nat.{le-antisymm}
 use native.Mathlib.Omega.{arith}
 use mathlib.Core.Path.{_≡_, refl, sym, ap, _∙_, subst}
-use mathlib.Core.Bool.{Bool, cond}
 use mathlib.Core.List.{List, [], _∷_}
 use mathlib.Core.Logic.{_⊎_, inl, inr, ⊎-elim}
-use lib.Dec.{leb, ltb, eqb}
-use lib.ListN.{length, getD, set, replicate}
-use borrow.Author.Tests.{eqb-true, eqb-false}
+use lib.Dec.{eqb}
+use lib.ListN.{length, getD}
 use Rattle.base.specs.Loops.{turns}
 use Rattle.base.proofs.Pick.{cond-elim}
 use Rattle.base.proofs.Turns.{turns-keep, turns-stay}
-use Rattle.blobs.specs.Patches.{Dark}
-use Rattle.blobs.specs.Stack.{Marking, marking, visit, visitLeft, visitRight, visitUp, visitDown, spread, Flooding, begun, take, floodStep, flood}
+use Rattle.blobs.specs.Stack.{Marking, marking, visitLeft, visitRight, visitUp, visitDown, spread, Flooding, begun, take, floodStep, flood}
 use Rattle.blobs.specs.Stack.{Scanned, listed, scan, unmarked, scanAll, waitedOf}
 use Rattle.blobs.specs.Ready.{at, Ready, Sized}
-use Rattle.blobs.specs.Moments.{Starts, Phase, Moment, Holds, MostHeld}
+use Rattle.blobs.specs.Moments.{DarkUnmarked, put, Phase, Moment, Holds, MostHeld}
 use Rattle.blobs.specs.Moments.Phase.{between, before-left, before-right, before-up, before-down}
 use Rattle.blobs.specs.Moments.Moment.{start, pass, begin, taken, left, right, up, down}
 use Rattle.blobs.proofs.Grid.{dark-inside}
 use Rattle.blobs.proofs.Floods.{floodStep-none, flood-ends}
 use Rattle.blobs.proofs.Scans.{scan-ready, scan-turns}
 use Rattle.blobs.proofs.Stacks.{flood-is, scan-light, scan-seen, scan-list}
+use Rattle.blobs.proofs.Visits.{dark-unmarked?, left-has, right-has, up-has, down-has, visit-left, visit-right, visit-up, visit-down, visit-grows}
 
 -- a mask has one such number
 pub most-held-unique : {m : List ℕ} {w n o : ℕ} → MostHeld m w n → MostHeld m w o → n ≡ o
@@ -36,41 +34,6 @@ max-either P x y p q = go (decLt x y)
     go : Dec (x < y) → P (max x y)
     go (yes l) = let e : y ≡ max x y = omega arith in subst P e q
     go (no l) = let e : x ≡ max x y = omega arith in subst P e p
-
--- ---- a visit takes no pixel off
-abbrev Longer : Marking → Marking → Type 0
-Longer a b = length (a .waiting) ≤ length (b .waiting)
-
-visit-longer : (m : List ℕ) (q : ℕ) (a : Marking) → Longer a (visit m q a)
-unfolding visit
-visit-longer m q a =
-    cond-elim (Longer a) (eqb (getD m q 0) 0) a _ (λ e. omega arith)
-    (λ e. cond-elim (Longer a) (eqb (getD (a .seen) q 0) 0) (marking (set (a .seen) q 1) (q ∷ a .waiting)) a (λ z. omega arith) (λ z. omega arith))
-
-if-longer : (m : List ℕ) (t : Bool) (q : ℕ) (a : Marking) → Longer a (cond t (visit m q a) a)
-if-longer m t q a = cond-elim (Longer a) t (visit m q a) a (λ e. visit-longer m q a) (λ e. omega arith)
-
-module _ (m : List ℕ) (w p : ℕ) (a : Marking) where
-  left-longer : Longer a (visitLeft m w p a)
-  unfolding visitLeft
-  left-longer = if-longer m (ltb 0 (p % w)) (p - 1) a
-
-  right-longer : Longer a (visitRight m w p a)
-  unfolding visitRight
-  right-longer = if-longer m (ltb (p % w + 1) w) (p + 1) a
-
-  up-longer : Longer a (visitUp m w p a)
-  unfolding visitUp
-  up-longer = if-longer m (leb w p) (p - w) a
-
-  down-longer : Longer a (visitDown m w p a)
-  unfolding visitDown
-  down-longer = if-longer m (ltb (p + w) (length m)) (p + w) a
-
-past-right : (m : List ℕ) (w p : ℕ) (a : Marking) → Longer (visitRight m w p a) (visitDown m w p (visitUp m w p (visitRight m w p a)))
-past-right m w p a =
-    let b = visitRight m w p a in
-    omega (arith, up-longer m w p b, down-longer m w p (visitUp m w p b))
 
 -- ---- a turn and a scan's step count no less
 take-waited : (m : List ℕ) (w : ℕ) (f : Flooding) (k : List ℕ) → f .waited ≤ take m w f k .waited
@@ -114,58 +77,76 @@ scanTo m w i = turns i (scan m w) (unmarked m)
 abbrev idle : List ℕ → ℕ → ℕ → Marking
 idle m w i = marking (scanTo m w i .seen) []
 
--- the flood of the pixel i after t turns
+-- the flood of the pixel i after t turns, and whole
 abbrev floodTo : List ℕ → ℕ → ℕ → ℕ → Flooding
 floodTo m w i t = turns t (floodStep m w) (begun w i (scanTo m w i .seen))
 
+abbrev whole : List ℕ → ℕ → ℕ → Flooding
+whole m w i = flood m w i (scanTo m w i .seen)
+
+-- the scan's step, by whether a patch begins
+module _ (m : List ℕ) (w i : ℕ) where
+  scan-next : DarkUnmarked m (idle m w i) i → listed (scanTo m w i) (whole m w i) ≡ scanTo m w (suc i)
+  unfolding turns
+  scan-next s = scan-list m w i (scanTo m w i) (s .0) (s .1)
+
+  scan-on : (DarkUnmarked m (idle m w i) i → ⊥) → scanTo m w i ≡ scanTo m w (suc i)
+  unfolding turns
+  scan-on o = go (ℕ-discrete (at m i) 0)
+    where
+      go : Dec (at m i ≡ 0) → scanTo m w i ≡ scan m w i (scanTo m w i)
+      go (yes e) = scan-light m w i (scanTo m w i) e
+      go (no d) = scan-seen m w i (scanTo m w i) (λ u. o (d, u))
+
 -- ---- what the functions go through are moments
+
+-- a is a moment's, between two turns, and n pixels wait at some moment
 abbrev Counted : List ℕ → ℕ → ℕ → Marking → ℕ → Type 0
 Counted m w i a n = Moment m w i between a × Holds m w n
 
 abbrev CountedScan : List ℕ → ℕ → ℕ → Scanned → Type 0
 CountedScan m w i c = Counted m w i (marking (c .seen) []) (c .waited)
 
-module _ (m : List ℕ) (w i : ℕ) where
+module _ (m : List ℕ) (w i : ℕ) (wide : 0 < w) where
   take-moment : (f : Flooding) → Counted m w i (held f) (f .waited) → (k : List ℕ) → f .waiting ≡ k → Counted m w i (held (take m w f k)) (take m w f k .waited)
   unfolding take spread
   take-moment f o [] e = o
   take-moment f o (p ∷ k) e =
-      let b = down (up (right (left (taken (o .0) e)))) in
+      let b = down (up (right (left (taken (o .0) e) (left-has m w p _ wide)) (right-has m w p _)) (up-has m w p _)) (down-has m w p _) in
       (b, max-either (Holds m w) (f .waited) _ (o .1) (i, between, _, b, refl))
 
   turn-moment : (j : ℕ) (f : Flooding) → Counted m w i (held f) (f .waited) → Counted m w i (held (floodStep m w j f)) (floodStep m w j f .waited)
   unfolding floodStep
   turn-moment j f o = take-moment f o (f .waiting) refl
 
-flood-moment : (m : List ℕ) (w i : ℕ) → Moment m w i between (idle m w i) → Starts m (idle m w i) i → (t : ℕ)
+flood-moment : (m : List ℕ) (w i : ℕ) → 0 < w → Moment m w i between (idle m w i) → DarkUnmarked m (idle m w i) i → (t : ℕ)
     → Counted m w (suc i) (held (floodTo m w i t)) (floodTo m w i t .waited)
 unfolding begun
-flood-moment m w i o s t =
+flood-moment m w i wide o s t =
     let b = begin o refl s in
-    turns-keep (floodStep m w) (begun w i (scanTo m w i .seen)) (λ f. Counted m w (suc i) (held f) (f .waited)) (b, (suc i, between, _, b, refl)) (turn-moment m w (suc i)) t
+    turns-keep (floodStep m w) (begun w i (scanTo m w i .seen)) (λ f. Counted m w (suc i) (held f) (f .waited)) (b, (suc i, between, _, b, refl)) (turn-moment m w (suc i) wide) t
 
 module _ {m : List ℕ} {w h : ℕ} (g : Sized m w h) where
-  ready : (i : ℕ) → Starts m (idle m w i) i → Ready m w (scanTo m w i .seen) i
+  ready : (i : ℕ) → DarkUnmarked m (idle m w i) i → Ready m w (scanTo m w i .seen) i
   ready i s = let l = dark-inside m i (s .0) in scan-ready (scan-turns g i (omega arith)) l (s .0) (s .1)
 
-  begins : (i : ℕ) → CountedScan m w i (scanTo m w i) → Starts m (idle m w i) i → CountedScan m w (suc i) (listed (scanTo m w i) (flood m w i (scanTo m w i .seen)))
+  begins : (i : ℕ) → CountedScan m w i (scanTo m w i) → DarkUnmarked m (idle m w i) i → CountedScan m w (suc i) (listed (scanTo m w i) (whole m w i))
   unfolding flood
   begins i o s =
-      let f = flood-moment m w i (o .0) s (length m) in
+      let f = flood-moment m w i (g .wide) (o .0) s (length m) in
       let e : floodTo m w i (length m) .waiting ≡ [] = unfold flood in flood-ends (ready i s) in (
         subst (λ k. Moment m w (suc i) between (marking (floodTo m w i (length m) .seen) k)) e (f .0),
         max-either (Holds m w) (scanTo m w i .waited) _ (o .1) (f .1),
       )
 
+  scan-step : (i : ℕ) → i < length m → CountedScan m w i (scanTo m w i) → Dec (DarkUnmarked m (idle m w i) i) → CountedScan m w (suc i) (scanTo m w (suc i))
+  scan-step i l o (yes s) = subst (CountedScan m w (suc i)) (scan-next m w i s) (begins i o s)
+  scan-step i l o (no n) = subst (CountedScan m w (suc i)) (scan-on m w i n) (pass (o .0) refl l n, o .1)
+
   scan-moment : (i : ℕ) → i ≤ length m → CountedScan m w i (scanTo m w i)
-  unfolding turns unmarked scan
+  unfolding turns unmarked
   scan-moment zero l = (start, (0, between, _, start, refl))
-  scan-moment (suc i) l =
-      let o = scan-moment i (omega arith) in
-      cond-elim (CountedScan m w (suc i)) (eqb (getD m i 0) 0) (scanTo m w i) _ (λ e. (pass (o .0) refl l (λ s. s .0 (eqb-true _ 0 e)), o .1))
-      (λ e. cond-elim (CountedScan m w (suc i)) (eqb (getD (scanTo m w i .seen) i 0) 0) _ (scanTo m w i)
-      (λ z. begins i o (eqb-false _ 0 e, eqb-true _ 0 z))
-      (λ z. (pass (o .0) refl l (λ s. eqb-false (getD (scanTo m w i .seen) i 0) 0 z (s .1)), o .1)))
+  scan-moment (suc i) l = unfold turns in scan-step i l (scan-moment i (omega arith)) (dark-unmarked? m (idle m w i) i)
 
 -- ---- every moment is one of them
 
@@ -174,7 +155,7 @@ record InFlood (m : List ℕ) (w i : ℕ) (f : Flooding) : Type 0 where
   first : ℕ
   times : ℕ
   next : i ≡ suc first
-  starts : Starts m (idle m w first) first
+  starts : DarkUnmarked m (idle m w first) first
   is : f ≡ floodTo m w first times
 
 -- .. and the pixel p, the newest of those waiting, is taken, and some of its neighbours were visited
@@ -185,6 +166,7 @@ record Around (m : List ℕ) (w i p : ℕ) (visited : Marking → Marking) (a : 
   newest : flooding .waiting ≡ p ∷ older
   is : a ≡ visited (marking (flooding .seen) older)
 
+-- where the functions stand at a moment: before the pixel i, or within a flood
 unfoldable Passed : List ℕ → ℕ → ℕ → Phase → Marking → Type 0
 Passed m w i between a = ((i ≤ length m) × (a ≡ idle m w i)) ⊎ ((f : Flooding) × InFlood m w i f × (a ≡ held f))
 Passed m w i (before-left p) a = Around m w i p (λ b. b) a
@@ -192,39 +174,35 @@ Passed m w i (before-right p) a = Around m w i p (visitLeft m w p) a
 Passed m w i (before-up p) a = Around m w i p (λ b. visitRight m w p (visitLeft m w p b)) a
 Passed m w i (before-down p) a = Around m w i p (λ b. visitUp m w p (visitRight m w p (visitLeft m w p b))) a
 
-visited-more : {m : List ℕ} {w i p : ℕ} {v : Marking → Marking} {a : Marking} (u : Marking → Marking) → Around m w i p v a → Around m w i p (λ b. u (v b)) (u a)
-visited-more u x = record { flooding = x .flooding; older = x .older; flooded = x .flooded; newest = x .newest; is = ap u (x .is) }
+visited-more : {m : List ℕ} {w i p : ℕ} {v : Marking → Marking} {a b : Marking} (u : Marking → Marking) → Around m w i p v a → b ≡ u a → Around m w i p (λ c. u (v c)) b
+visited-more u x e = record { flooding = x .flooding; older = x .older; flooded = x .flooded; newest = x .newest; is = e ∙ ap u (x .is) }
 
 -- the turn that takes p
-take-newest : (m : List ℕ) (w j : ℕ) (f : Flooding) (p : ℕ) (k : List ℕ) → f .waiting ≡ p ∷ k → held (floodStep m w j f)
-    ≡ visitDown m w p (visitUp m w p (visitRight m w p (visitLeft m w p (marking (f .seen) k))))
-unfolding floodStep
-take-newest m w j f p k e = ap (λ l. held (take m w f l)) e ∙ (unfold take in unfold spread in refl)
+take-newest : (m : List ℕ) (w j : ℕ) (f : Flooding) (p : ℕ) (k : List ℕ) → f .waiting ≡ p ∷ k → held (floodStep m w j f) ≡ spread m w p (marking (f .seen) k)
+unfolding floodStep take
+take-newest m w j f p k e = ap (λ l. held (take m w f l)) e
 
 after : {m : List ℕ} {w i : ℕ} {f : Flooding} (n : InFlood m w i f) → InFlood m w i (floodStep m w (n .times) f)
 unfolding turns
 after {m} {w} n = record { first = n .first; times = suc (n .times); next = n .next; starts = n .starts; is = ap (floodStep m w (n .times)) (n .is) }
 
 module _ {m : List ℕ} {w h : ℕ} (g : Sized m w h) where
-  abbrev whole : ℕ → Flooding
-  whole j = flood m w j (scanTo m w j .seen)
-
   -- more turns than pixels change nothing
-  flood-later : (j t : ℕ) → Starts m (idle m w j) j → length m ≤ t → whole j ≡ floodTo m w j t
+  flood-later : (j t : ℕ) → DarkUnmarked m (idle m w j) j → length m ≤ t → whole m w j ≡ floodTo m w j t
   unfolding flood
   flood-later j t s l =
       let f = floodTo m w j (length m) in
       turns-stay (floodStep m w) (begun w j (scanTo m w j .seen)) (λ x. f ≡ x)
       (λ k x p. sym (ap (floodStep m w k) (sym p) ∙ floodStep-none m w k f (unfold flood in flood-ends (ready g j s)))) (length m) t l refl
 
-  flood-ended : (j t : ℕ) → Starts m (idle m w j) j → floodTo m w j t .waiting ≡ [] → floodTo m w j t ≡ whole j
+  flood-ended : (j t : ℕ) → DarkUnmarked m (idle m w j) j → floodTo m w j t .waiting ≡ [] → floodTo m w j t ≡ whole m w j
   flood-ended j t s e = go (decLt (length m) t)
     where
-      go : Dec (length m < t) → floodTo m w j t ≡ whole j
+      go : Dec (length m < t) → floodTo m w j t ≡ whole m w j
       go (yes l) = sym (flood-later j t s (omega arith))
       go (no l) = flood-is m w j (scanTo m w j .seen) t (floodTo m w j t) e (omega arith) refl
 
-  flood-most : (j t : ℕ) → Starts m (idle m w j) j → floodTo m w j t .waited ≤ whole j .waited
+  flood-most : (j t : ℕ) → DarkUnmarked m (idle m w j) j → floodTo m w j t .waited ≤ whole m w j .waited
   unfolding flood
   flood-most j t s = go (decLt (length m) t)
     where
@@ -234,17 +212,13 @@ module _ {m : List ℕ} {w h : ℕ} (g : Sized m w h) where
           turns-stay (floodStep m w) (begun w j (scanTo m w j .seen)) (λ x. floodTo m w j t .waited ≤ x .waited)
           (λ k x p. omega (arith, p, floodStep-waited m w k x)) t (length m) (omega arith) (omega arith)
 
-  scan-next : (j : ℕ) → Starts m (idle m w j) j → listed (scanTo m w j) (whole j) ≡ scanTo m w (suc j)
-  unfolding turns
-  scan-next j s = scan-list m w j (scanTo m w j) (s .0) (s .1)
-
   -- when a flood has ended, the scan goes on
   ended : {i : ℕ} {f : Flooding} → InFlood m w i f → f .waiting ≡ [] → held f ≡ idle m w i
   ended {i} {f} n e =
       let j = n .first in
-      let a : f ≡ whole j = n .is ∙ flood-ended j (n .times) (n .starts) (ap (λ (x : Flooding). x .waiting) (sym (n .is)) ∙ e) in
+      let a : f ≡ whole m w j = n .is ∙ flood-ended j (n .times) (n .starts) (ap (λ (x : Flooding). x .waiting) (sym (n .is)) ∙ e) in
       let b : f .seen ≡ scanTo m w i .seen =
-      ap (λ (x : Flooding). x .seen) a ∙ ap (λ (c : Scanned). c .seen) (scan-next j (n .starts)) ∙ ap (λ (k : ℕ). scanTo m w k .seen) (sym (n .next)) in
+      ap (λ (x : Flooding). x .seen) a ∙ ap (λ (c : Scanned). c .seen) (scan-next m w j (n .starts)) ∙ ap (λ (k : ℕ). scanTo m w k .seen) (sym (n .next)) in
       λ x. marking (b x) (e x)
 
   inside : {i : ℕ} {f : Flooding} → InFlood m w i f → i ≤ length m
@@ -255,28 +229,21 @@ module _ {m : List ℕ} {w h : ℕ} (g : Sized m w h) where
   none-waits i a x e =
       ⊎-elim (λ y. y) (λ y. (inside (y .1), y .2 ∙ ended (y .1) (ap (λ (b : Marking). b .waiting) (sym (y .2)) ∙ e))) x
 
-  scan-on : (i : ℕ) → (Starts m (idle m w i) i → ⊥) → scanTo m w i ≡ scanTo m w (suc i)
-  unfolding turns scan
-  scan-on i o =
-      cond-elim (λ c. scanTo m w i ≡ c) (eqb (getD m i 0) 0) (scanTo m w i) _ (λ e. refl)
-      (λ e. cond-elim (λ c. scanTo m w i ≡ c) (eqb (getD (scanTo m w i .seen) i 0) 0) _ (scanTo m w i)
-      (λ z. absurd (o (eqb-false _ 0 e, eqb-true _ 0 z))) (λ z. refl))
-
   -- ---- each step of the search
-  pass-case : (i : ℕ) (a : Marking) → Passed m w i between a → a .waiting ≡ [] → i < length m → (Starts m a i → ⊥) → Passed m w (suc i) between a
+  pass-case : (i : ℕ) (a : Marking) → Passed m w i between a → a .waiting ≡ [] → i < length m → (DarkUnmarked m a i → ⊥) → Passed m w (suc i) between a
   unfolding Passed
   pass-case i a x e l o =
       let y = none-waits i a (unfold Passed in x) e in
-      inl (l, y .1 ∙ ap (λ (c : Scanned). marking (c .seen) []) (scan-on i (subst (λ b. Starts m b i → ⊥) (y .1) o)))
+      inl (l, y .1 ∙ ap (λ (c : Scanned). marking (c .seen) []) (scan-on m w i (subst (λ b. DarkUnmarked m b i → ⊥) (y .1) o)))
 
-  begin-case : (i : ℕ) (a : Marking) → Passed m w i between a → a .waiting ≡ [] → Starts m a i → Passed m w (suc i) between (marking (set (a .seen) i 1) (i ∷ []))
+  begin-case : (i : ℕ) (a : Marking) → Passed m w i between a → a .waiting ≡ [] → DarkUnmarked m a i → Passed m w (suc i) between (put i a)
   unfolding Passed turns begun
   begin-case i a x e s =
       let y = none-waits i a (unfold Passed in x) e in
       inr (
         floodTo m w i 0,
-        record { first = i; times = 0; next = refl; starts = subst (λ b. Starts m b i) (y .1) s; is = refl },
-        ap (λ (b : Marking). marking (set (b .seen) i 1) (i ∷ [])) (y .1),
+        record { first = i; times = 0; next = refl; starts = subst (λ b. DarkUnmarked m b i) (y .1) s; is = refl },
+        ap (put i) (y .1),
       )
 
   taken-case : (i p : ℕ) (a : Marking) (k : List ℕ) → Passed m w i between a → a .waiting ≡ p ∷ k → Passed m w i (before-left p) (marking (a .seen) k)
@@ -292,11 +259,11 @@ module _ {m : List ℕ} {w h : ℕ} (g : Sized m w h) where
         is = ap (λ (b : Marking). marking (b .seen) k) (y .2);
       }) x
 
-  down-case : (i p : ℕ) (a : Marking) → Passed m w i (before-down p) a → Passed m w i between (visitDown m w p a)
-  unfolding Passed
-  down-case i p a x =
+  down-case : (i p : ℕ) (a b : Marking) → Passed m w i (before-down p) a → b ≡ visitDown m w p a → Passed m w i between b
+  unfolding Passed spread
+  down-case i p a b x e =
       let n = x .flooded in
-      inr (_, after n, ap (visitDown m w p) (x .is) ∙ sym (take-newest m w (n .times) (x .flooding) p (x .older) (x .newest)))
+      inr (_, after n, e ∙ ap (visitDown m w p) (x .is) ∙ sym (take-newest m w (n .times) (x .flooding) p (x .older) (x .newest)))
 
   passed : {i : ℕ} {d : Phase} {a : Marking} → Moment m w i d a → Passed m w i d a
   unfolding Passed turns unmarked
@@ -304,17 +271,17 @@ module _ {m : List ℕ} {w h : ℕ} (g : Sized m w h) where
   passed (pass {i} {a} o e l n) = pass-case i a (passed o) e l n
   passed (begin {i} {a} o e s) = begin-case i a (passed o) e s
   passed (taken {i} {p} {a} {k} o e) = taken-case i p a k (passed o) e
-  passed (left {p = p} o) = visited-more (visitLeft m w p) (passed o)
-  passed (right {p = p} o) = visited-more (visitRight m w p) (passed o)
-  passed (up {p = p} o) = visited-more (visitUp m w p) (passed o)
-  passed (down {i} {p} {a} o) = down-case i p a (passed o)
+  passed (left {i} {p} {a} {b} o v) = visited-more (visitLeft m w p) (passed o) (visit-left m w p a b (g .wide) v)
+  passed (right {i} {p} {a} {b} o v) = visited-more (visitRight m w p) (passed o) (visit-right m w p a b v)
+  passed (up {i} {p} {a} {b} o v) = visited-more (visitUp m w p) (passed o) (visit-up m w p a b v)
+  passed (down {i} {p} {a} {b} o v) = down-case i p a b (passed o) (visit-down m w p a b v)
 
   -- ---- no more wait than are counted
   flood-bound : {i : ℕ} {f : Flooding} → InFlood m w i f → f .waited ≤ waitedOf m w
   unfolding scanAll
   flood-bound n =
       let j = n .first in
-      let e = ap (λ (c : Scanned). c .waited) (scan-next j (n .starts)) in
+      let e = ap (λ (c : Scanned). c .waited) (scan-next m w j (n .starts)) in
       omega (
         arith,
         ap (λ (f : Flooding). f .waited) (n .is),
@@ -332,7 +299,7 @@ module _ {m : List ℕ} {w h : ℕ} (g : Sized m w h) where
       omega (arith, flood-bound n)
 
   around-holds : {i p : ℕ} {v : Marking → Marking} {a : Marking} (x : Around m w i p v a)
-      → ((b : Marking) → Longer (v b) (visitDown m w p (visitUp m w p (visitRight m w p (visitLeft m w p b))))) → length (a .waiting) ≤ waitedOf m w
+      → ((b : Marking) → length (v b .waiting) ≤ length (spread m w p b .waiting)) → length (a .waiting) ≤ waitedOf m w
   around-holds {p = p} x l =
       omega (
         arith,
@@ -342,15 +309,30 @@ module _ {m : List ℕ} {w h : ℕ} (g : Sized m w h) where
         flood-holds (after (x .flooded)),
       )
 
+  -- the visits of a turn, one after another
+  module _ (p : ℕ) (b : Marking) where
+    left-grows : length (b .waiting) ≤ length (visitLeft m w p b .waiting)
+    left-grows = visit-grows (left-has m w p b (g .wide))
+
+    right-grows : length (visitLeft m w p b .waiting) ≤ length (visitRight m w p (visitLeft m w p b) .waiting)
+    right-grows = visit-grows (right-has m w p _)
+
+    up-grows : length (visitRight m w p (visitLeft m w p b) .waiting) ≤ length (visitUp m w p (visitRight m w p (visitLeft m w p b)) .waiting)
+    up-grows = visit-grows (up-has m w p _)
+
+    down-grows : length (visitUp m w p (visitRight m w p (visitLeft m w p b)) .waiting) ≤ length (spread m w p b .waiting)
+    unfolding spread
+    down-grows = visit-grows (down-has m w p _)
+
   passed-holds : (i : ℕ) (d : Phase) (a : Marking) → Passed m w i d a → length (a .waiting) ≤ waitedOf m w
-  unfolding Passed
+  unfolding Passed spread
   passed-holds i between a x =
       ⊎-elim (λ y. omega (arith, ap (λ (b : Marking). length (b .waiting)) (y .1)))
       (λ y. omega (arith, ap (λ (b : Marking). length (b .waiting)) (y .2), flood-holds (y .1))) x
-  passed-holds i (before-left p) a x = around-holds x (λ b. omega (arith, left-longer m w p b, right-longer m w p (visitLeft m w p b), past-right m w p (visitLeft m w p b)))
-  passed-holds i (before-right p) a x = around-holds x (λ b. omega (arith, right-longer m w p (visitLeft m w p b), past-right m w p (visitLeft m w p b)))
-  passed-holds i (before-up p) a x = around-holds x (λ b. past-right m w p (visitLeft m w p b))
-  passed-holds i (before-down p) a x = around-holds x (λ b. down-longer m w p _)
+  passed-holds i (before-left p) a x = around-holds x (λ b. omega (arith, left-grows p b, right-grows p b, up-grows p b, down-grows p b))
+  passed-holds i (before-right p) a x = around-holds x (λ b. omega (arith, right-grows p b, up-grows p b, down-grows p b))
+  passed-holds i (before-up p) a x = around-holds x (λ b. omega (arith, up-grows p b, down-grows p b))
+  passed-holds i (before-down p) a x = around-holds x (λ b. down-grows p b)
 
   waited-reached : Holds m w (waitedOf m w)
   unfolding scanAll
