@@ -104,7 +104,8 @@ enum {
     TABLET_CANDIDATES = 1,
     TABLET_WAITED = 2, /* the most pixels that waited at once, over all patches, as the original's stack holds them: the newest is
                         * taken first; its neighbours go on left, right, up, down, where dark and not yet marked, and are marked
-                        * then; a patch's first pixel counts as one waiting */
+                        * then; a patch's first pixel counts as one waiting. The waiting area needs its w * h entries all the
+                        * same: fewer are refused by 3 */
     TABLET_PLACE_TL = 3, /* the four corners' places in patches */
     TABLET_PLACE_TR = 4,
     TABLET_PLACE_BR = 5,

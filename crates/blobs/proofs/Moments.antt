@@ -15,18 +15,17 @@ use Rattle.base.proofs.Turns.{turns-keep, turns-stay}
 use Rattle.blobs.specs.Stack.{Marking, marking, visitLeft, visitRight, visitUp, visitDown, spread, Flooding, begun, take, floodStep, flood}
 use Rattle.blobs.specs.Stack.{Scanned, listed, scan, unmarked, scanAll, waitedOf}
 use Rattle.blobs.specs.Ready.{at, Ready, Sized}
-use Rattle.blobs.specs.Moments.{DarkUnmarked, put, Phase, Moment, Holds, MostHeld}
+use Rattle.blobs.specs.Moments.{DarkUnmarked, put, Phase, Moment, Holds, MostHeld, OneMost}
 use Rattle.blobs.specs.Moments.Phase.{between, before-left, before-right, before-up, before-down}
 use Rattle.blobs.specs.Moments.Moment.{start, pass, begin, taken, left, right, up, down}
 use Rattle.blobs.proofs.Grid.{dark-inside}
-use Rattle.blobs.proofs.Floods.{floodStep-none, flood-ends}
+use Rattle.blobs.proofs.Floods.{flood-ends}
 use Rattle.blobs.proofs.Scans.{scan-ready, scan-turns}
-use Rattle.blobs.proofs.Stacks.{flood-is, scan-light, scan-seen, scan-list}
+use Rattle.blobs.proofs.Stacks.{flood-stays, flood-is, scan-light, scan-seen, scan-list}
 use Rattle.blobs.proofs.Visits.{dark-unmarked?, left-has, right-has, up-has, down-has, visit-left, visit-right, visit-up, visit-down, visit-grows}
 
--- a mask has one such number
-pub most-held-unique : {m : List ℕ} {w n o : ℕ} → MostHeld m w n → MostHeld m w o → n ≡ o
-most-held-unique {n = n} {o = o} a b = le-antisymm (b .no-more n (a .reached)) (a .no-more o (b .reached))
+pub one-most : OneMost
+one-most m w n o a b = le-antisymm (b .no-more n (a .reached)) (a .no-more o (b .reached))
 
 max-either : (P : ℕ → Type 0) (x y : ℕ) → P x → P y → P (max x y)
 max-either P x y p q = go (decLt x y)
@@ -190,10 +189,7 @@ module _ {m : List ℕ} {w h : ℕ} (g : Sized m w h) where
   -- more turns than pixels change nothing
   flood-later : (j t : ℕ) → DarkUnmarked m (idle m w j) j → length m ≤ t → whole m w j ≡ floodTo m w j t
   unfolding flood
-  flood-later j t s l =
-      let f = floodTo m w j (length m) in
-      turns-stay (floodStep m w) (begun w j (scanTo m w j .seen)) (λ x. f ≡ x)
-      (λ k x p. sym (ap (floodStep m w k) (sym p) ∙ floodStep-none m w k f (unfold flood in flood-ends (ready g j s)))) (length m) t l refl
+  flood-later j t s l = flood-stays m w j (scanTo m w j .seen) (length m) t (floodTo m w j (length m)) (unfold flood in flood-ends (ready g j s)) l refl
 
   flood-ended : (j t : ℕ) → DarkUnmarked m (idle m w j) j → floodTo m w j t .waiting ≡ [] → floodTo m w j t ≡ whole m w j
   flood-ended j t s e = go (decLt (length m) t)

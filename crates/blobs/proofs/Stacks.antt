@@ -93,11 +93,16 @@ pub grow-area : (b b′ : Blob) (x y s : ℕ) → b′ ≡ grow b x y s → b′
 unfolding grow
 grow-area b b′ x y s e = ap (λ (z : Blob). z .area) e
 
+-- a flood that has ended after n turns stays as it is
+pub flood-stays : (m : List ℕ) (w a : ℕ) (s₀ : List ℕ) (n t : ℕ) (f : Flooding) → f .waiting ≡ [] → n ≤ t → f ≡ turns n (floodStep m w) (begun w a s₀)
+    → f ≡ turns t (floodStep m w) (begun w a s₀)
+flood-stays m w a s₀ n t f fe l e =
+    turns-stay (floodStep m w) (begun w a s₀) (λ x. f ≡ x) (λ k x p. sym (ap (floodStep m w k) (sym p) ∙ floodStep-none m w k f fe)) n t l e
+
 pub flood-is : (m : List ℕ) (w a : ℕ) (s₀ : List ℕ) (n : ℕ) (f : Flooding) → f .waiting ≡ [] → n ≤ length m → f
     ≡ turns n (floodStep m w) (begun w a s₀) → f ≡ flood m w a s₀
 unfolding flood
-flood-is m w a s₀ n f fe l e =
-    turns-stay (floodStep m w) (begun w a s₀) (λ x. f ≡ x) (λ k x p. sym (ap (floodStep m w k) (sym p) ∙ floodStep-none m w k f fe)) n (length m) l e
+flood-is m w a s₀ n f fe l e = flood-stays m w a s₀ n (length m) f fe l e
 
 -- ---- the scan's step
 module _ (m : List ℕ) (w i : ℕ) (c : Scanned) where

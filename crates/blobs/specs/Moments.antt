@@ -16,7 +16,7 @@ DarkUnmarked m a q = Dark m q × (getD (a .seen) q 0 ≡ 0)
 abbrev pub put : ℕ → Marking → Marking
 put q a = marking (set (a .seen) q 1) (q ∷ a .waiting)
 
--- q is the left, right, upper, lower neighbour of p in rows of w; they are the cases of `Touch`
+-- [25.3] "left, right, up, down": q is this neighbour of p in rows of w. They are the cases of `Touch`
 abbrev pub Left : ℕ → ℕ → ℕ → Type 0
 Left w p q = (p ≡ q + 1) × (q % w + 1 < w)
 
@@ -42,8 +42,8 @@ pub data Phase : Type 0 where
   before-up : ℕ → Phase
   before-down : ℕ → Phase
 
--- a moment of the search in the mask m, whose rows are w long: the scan comes to the pixel i next, and a has the marks
--- and the pixels waiting, newest first
+-- [25.1] a moment of "the Rust stack", in the mask m, whose rows are w long: the scan comes to the pixel i next, and a
+-- has the marks and the pixels waiting, newest first
 pub data Moment (m : List ℕ) (w : ℕ) : ℕ → Phase → Marking → Type 0 where
   -- no pixel is marked, and none waits
   start : Moment m w 0 between (marking (replicate (length m) 0) [])
@@ -65,7 +65,7 @@ pub data Moment (m : List ℕ) (w : ℕ) : ℕ → Phase → Marking → Type 0 
       → Moment m w i (before-down p) b
   down : {i p : ℕ} {a b : Marking} → Moment m w i (before-down p) a → Visit m (Lower w p) a b → Moment m w i between b
 
--- at some moment k pixels wait
+-- [25.6] "ever holds": at some moment k pixels wait
 abbrev pub Holds : List ℕ → ℕ → ℕ → Type 0
 Holds m w k = (i : ℕ) × (d : Phase) × (a : Marking) × Moment m w i d a × (length (a .waiting) ≡ k)
 
@@ -73,3 +73,7 @@ Holds m w k = (i : ℕ) × (d : Phase) × (a : Marking) × Moment m w i d a × (
 pub record MostHeld (m : List ℕ) (w n : ℕ) : Type 0 where
   pub reached : Holds m w n
   pub no-more : (k : ℕ) → Holds m w k → k ≤ n
+
+-- [25.1] "exactly": a mask has one such number, so no two builds that keep the promise report different ones
+abbrev pub OneMost : Type 0
+OneMost = (m : List ℕ) (w n o : ℕ) → MostHeld m w n → MostHeld m w o → n ≡ o
