@@ -110,8 +110,9 @@ enum {
     TABLET_PLACE_TR = 4,
     TABLET_PLACE_BR = 5,
     TABLET_PLACE_BL = 6,
-    TABLET_TRIALS = 7,
-    TABLET_HOMOGRAPHIES = 8,
+    TABLET_TRIALS = 7, /* different lens terms tried, added over the three stages: 43 to 78 when accepted; after 10 and 16 those of
+                        * the stages that were tried. A term that a stage tries again counts once there */
+    TABLET_HOMOGRAPHIES = 8, /* of them, with a homography */
     TABLET_GRADE = 9, /* of the kept trial */
     TABLET_OUTSIDE_CELL = 10, /* where the grade is TABLET_OUTSIDE the first sampled cell, by row, then column, that has a tap
                                * outside the picture: row * cols + column, over all cells; else 0 */

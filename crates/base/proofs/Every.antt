@@ -1,6 +1,6 @@
 -- Laws of `every`. Assumes nothing.
 use mathlib.Core.Path.{_≡_, refl, sym, ap, _∙_}
-use mathlib.Core.Bool.{Bool, true, false, _&&_}
+use mathlib.Core.Bool.{Bool, true, false, _&&_, true≢false}
 use mathlib.Core.Logic.{⊎-elim}
 use Prim.Native.Nat.{ℕ, zero, suc, _+_, _<_}
 use native.Mathlib.Omega.{arith}
@@ -47,3 +47,12 @@ module _ (p : ℕ → Bool) where
   unfolding every turns
   one-every zero f = refl
   one-every (suc n) f = and-both (every n p) (p n) (one-every n (λ i k. f i (omega arith))) (f n (omega arith))
+
+  pub every-fails : (n : ℕ) → every n p ≡ false → (i : ℕ) × (i < n) × (p i ≡ false)
+  unfolding every turns
+  every-fails zero h = absurd (true≢false h)
+  every-fails (suc n) h = go (every n p) (λ e. every-fails n e) h
+    where
+      go : (b : Bool) → (b ≡ false → (i : ℕ) × (i < n) × (p i ≡ false)) → (b && p n) ≡ false → (i : ℕ) × (i < suc n) × (p i ≡ false)
+      go true e k = (n, omega arith, k)
+      go false e k = let r = e refl in (r .0, omega (arith, r .1), r .2)

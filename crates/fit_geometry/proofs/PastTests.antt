@@ -31,9 +31,11 @@ use Rattle.fit.specs.Contracts.{sampledCells, MeansKept}
 use Rattle.search.specs.declared.Stage.{Stage}
 use Rattle.fit_geometry.specs.declared.FitReport.{FitReport}
 use Rattle.fit_geometry.specs.declared.PictureFit.{PictureFit}
+use Rattle.search.specs.Counts.{Counts}
 use Rattle.search.specs.Stages.{keeps, searched, lastCenter, BestTrial}
 use Rattle.fit_geometry.specs.Contracts.{Unfitted, undetected, barren, fitShort, fitTests, unsearched, searchedReport, FitPastTests, answerOf, refusedByTest, Fitting}
-use Rattle.search.proofs.Kept.{search-best, tried-78, search-barren, barren-search, some-grade}
+use Rattle.search.proofs.Counts.{search-counts}
+use Rattle.search.proofs.Kept.{search-best, search-barren, barren-search, some-grade}
 
 -- ---- the lowest number
 
@@ -112,7 +114,7 @@ module _ (img : Image) (f : FrameSpec) (a b : Areas) (means : List Float) (d : F
         corners = λ e. absurd (omega arith);
         found = λ e. absurd (omega arith);
         best = λ e. absurd (omega arith);
-        tried-all = λ e. absurd (omega arith);
+        counts = λ e. absurd (omega arith);
         fruitless = λ e q m. absurd (omega arith);
         untried = λ x y. refl;
         nowhere = λ x. refl;
@@ -133,7 +135,8 @@ module _ (img : Image) (f : FrameSpec) (a b : Areas) (means : List Float) (d : F
           found = λ e. ap (searched img f) c;
           best = λ e.
               subst (λ (q : Quad). BestTrial img f q 2 (lastCenter img f q) (searched img f (d .quad) .fit)) c (search-best img f (d .quad) (g .0) (g .1));
-          tried-all = λ e. tried-78 img f (d .quad) (g .0) (g .1);
+          counts = λ e.
+              subst (λ (q : Quad). Counts img f q (searched img f (d .quad) .tried) (searched img f (d .quad) .homographies)) c (search-counts img f (d .quad) (g .0) (g .1));
           fruitless = λ e. absurd (omega arith);
           untried = λ x. absurd (omega arith);
           nowhere = λ x. absurd (omega arith);
@@ -150,7 +153,7 @@ module _ (img : Image) (f : FrameSpec) (a b : Areas) (means : List Float) (d : F
           corners = λ e. absurd (omega arith);
           found = λ e. absurd (omega arith);
           best = λ e. absurd (omega arith);
-          tried-all = λ e. absurd (omega arith);
+          counts = λ e. absurd (omega arith);
           fruitless = λ e q m. ap (searched img f) (marked-unique img f (d .quad) q (h .marked z) m);
           untried = λ x y. absurd (omega arith);
           nowhere = λ x. refl;
@@ -226,7 +229,7 @@ module _ (img : Image) (f : FrameSpec) (a : Areas) (means : List Float) where
         corners = λ x. absurd (omega arith);
         found = λ x. absurd (omega arith);
         best = λ x. absurd (omega arith);
-        tried-all = λ x. absurd (omega arith);
+        counts = λ x. absurd (omega arith);
         fruitless = λ x. absurd (omega arith);
         untried = λ x y. refl;
         nowhere = λ x. refl;
@@ -247,7 +250,7 @@ module _ (img : Image) (f : FrameSpec) (a : Areas) (means : List Float) where
         corners = h .corners;
         found = h .found;
         best = h .best;
-        tried-all = h .tried-all;
+        counts = h .counts;
         fruitless = h .fruitless;
         untried = h .untried;
         nowhere = h .nowhere;

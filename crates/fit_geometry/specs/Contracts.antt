@@ -18,6 +18,7 @@ use Rattle.fit.specs.Contracts.{sampledCells, MeansKept}
 use Rattle.frame.specs.declared.FrameSpec.{FrameSpec}
 use Rattle.frame.specs.declared.Quad.{Quad}
 use Rattle.search.specs.Stages.{begun, keeps, searched, lastCenter, BarrenStage, BestTrial}
+use Rattle.search.specs.Counts.{Counts}
 use Rattle.search.specs.declared.Stage.{Stage}
 use Rattle.fit_geometry.specs.declared.FitReport.{FitReport}
 use Rattle.fit_geometry.specs.declared.PictureFit.{PictureFit}
@@ -84,8 +85,9 @@ pub record FitPastTests (img : Image) (f : FrameSpec) (a b : Areas) (means means
   pub found : r .number ≡ 0 → r .stage ≡ searched img f (centersAt (b .patches) (r .places))
   pub best : r .number ≡ 0 → BestTrial img f (centersAt (b .patches) (r .places)) 2
       (lastCenter img f (centersAt (b .patches) (r .places))) (r .stage .fit)
-  -- [12.6] 78 when accepted
-  pub tried-all : r .number ≡ 0 → r .stage .tried ≡ 78
+  -- [26.2, 26.3, 26.6] the different lens terms tried, those with a homography, and from 43 to 78 when accepted
+  pub counts : r .number ≡ 0 → Counts img f (centersAt (b .patches) (r .places)) (r .stage .tried)
+      (r .stage .homographies)
   -- 10: the search up to and with the stage that has no trial with a homography
   pub fruitless : r .number ≡ 10 → (q : Quad) → MarkedBy img f q → r .stage ≡ searched img f q
   -- 7 to 9: nothing was tried
@@ -136,7 +138,8 @@ pub record FittingAfter (img : Image) (f : FrameSpec) (tests : List Check) (a b 
   -- stage scores more, and no earlier one as much
   pub best : number ≡ 0 → BestTrial img f (centersAt (b .patches) (r .places)) 2
       (lastCenter img f (centersAt (b .patches) (r .places))) (r .fit)
-  pub tried-all : number ≡ 0 → r .tried ≡ 78
+  -- [26.2, 26.3, 26.6] the different lens terms tried, those with a homography, and from 43 to 78 when accepted
+  pub counts : number ≡ 0 → Counts img f (centersAt (b .patches) (r .places)) (r .tried) (r .homographies)
   -- 10: the counts up to and with the stage that has no trial with a homography
   pub fruitless : number ≡ 10 → (q : Quad) → MarkedBy img f q → stageOf r ≡ searched img f q
   -- 1 to 9: nothing was tried

@@ -23,10 +23,10 @@ pub struct FitReport {
     pub waited: usize,
 }
 
-// The answer of fit_geometry: the fit and beside it the grade of the kept trial, the counts of
-// trials and homographies, the corners' places in the patch list, how many patches and candidates
-// there are and the most pixels that waited. Where it is refused there is no fit and the places are
-// 0; the counts are those of the trials made.
+// The answer of fit_geometry: the fit and beside it the grade of the kept trial, how many different
+// lens terms the stages tried and how many of them had a homography, the corners' places in the
+// patch list, how many patches and candidates there are and the most pixels that waited. Where it
+// is refused there is no fit and the places are 0; the counts are those of the trials made.
 pub struct PictureFit {
     pub verdict: Verdict,
     pub fit: GeometryFit,

@@ -2,19 +2,19 @@
 use mathlib.Core.Path.{_≡_, refl, sym, ap, subst, _∙_}
 use mathlib.Core.Bool.{Bool, true, false, not, cond, _&&_, _||_, Bool·beq}
 use Prim.Native.Nat.{ℕ, zero, suc, _+_, _*_, _-_, _/_, _%_, _^_, _≤_, _<_, compare}
-use native.Mathlib.Nat.{le-trans, le-of-eq, mul-comm, mul-assoc, mul-le-mul-right, mul-le-mul-left, mul-one, one-mul}
+use native.Mathlib.Nat.{le-trans, le-of-eq, mul-comm, mul-assoc, mul-left-comm, mul-le-mul, mul-le-mul-right, mul-le-mul-left, mul-one, one-mul}
 use native.Mathlib.Omega.{arith}
 use lib.Dec.{T, ltb, eqb, ltb→lt, eqb→eq}
 use lib.IntN.{ℤ, pos}
 use lib.Count.{trailingZeros}
 use lib.Ieee.{minus, Float, nan, inf, fin, Format, binary64, up, down, odd, units, round, nearest, size}
-use lib.Ieee.{low, prec, emax, sum, add, sub, neg, div, ofInt, lt, eq, le, isNan, unlike}
+use lib.Ieee.{low, prec, emax, sum, add, sub, mul, neg, div, ofInt, lt, eq, le, isNan, unlike}
 use lib.Ieee.Back.{round-whole}
 use lib.Ieee.Exact.{HasValue}
 use lib.Ieee.Fits.{down-pos}
 use lib.Ieee.Order.{round-mono}
 use lib.Ieee.Positive.{above}
-use Rattle.float.specs.Floats.{_⊕_, _⊖_, _⊘_, f64, d64}
+use Rattle.float.specs.Floats.{_⊕_, _⊖_, _⊗_, _⊘_, f64, d64, clampOf}
 
 -- ---- what is above zero is a number
 pub above-number : (x : Float) → T (above x) → T (not (isNan x))
@@ -135,6 +135,24 @@ whole-one n l h = go (whole-small n h)
     go : Small (2 ^ 60) (f64 n) → AtLeastOne (f64 n)
     go (small m e p q) = at-least-one m e p (bound m e (subst (λ z. T (le (fin false 1 (pos 0)) z)) p one-below))
 
+-- a decimal up to 1
+pub decimal-small : (a b : ℕ) → 0 < b → a ≤ b → Small 1 (d64 a b)
+unfolding d64
+decimal-small a b B h = round-small 0 a b B power-0 (le-trans h (le-of-eq (sym (one-mul b))))
+
+-- .. times what is small
+pub product-small : (x y : Float) → Small 1 x → Small (2 ^ 60) y → Small (2 ^ 60) (x ⊗ y)
+product-small x y (small m e p h) (small n d q k) =
+    subst (λ z. Small (2 ^ 60) (z ⊗ y)) (sym p) (subst (λ z. Small (2 ^ 60) (fin false m e ⊗ z)) (sym q) go)
+  where
+    bound : m * up e * (n * up d) ≤ 2 ^ 60 * (down e * down d)
+    bound =
+        le-trans (mul-le-mul h k)
+        (le-of-eq (ap (λ z. z * (2 ^ 60 * down d)) (one-mul (down e)) ∙ mul-left-comm (down e) (2 ^ 60) (down d)))
+
+    go : Small (2 ^ 60) (fin false m e ⊗ fin false n d)
+    go = unfold mul in round-small 60 (m * up e * (n * up d)) (down e * down d) (native.Mathlib.Nat.mul-pos (down-pos e) (down-pos d)) power-60 bound
+
 pub quotient-small : (x y : Float) → Small (2 ^ 60) x → AtLeastOne y → Small (2 ^ 60) (x ⊘ y)
 quotient-small x y (small m e p h) (at-least-one n d q k) =
     subst (λ z. Small (2 ^ 60) (z ⊘ y)) (sym p) (subst (λ z. Small (2 ^ 60) (fin false m e ⊘ z)) (sym q) go)
@@ -173,6 +191,31 @@ pub minus-number : (x y : Float) → Finite x → Finite y → T (not (isNan (x 
 unfolding sub
 minus-number x y f (finite t n d q) = plus-number x (neg y) f (finite (not t) n d (ap neg q ∙ (unfold neg in refl)))
 
+pub small-finite : {C : ℕ} {x : Float} → Small C x → Finite x
+small-finite (small m e p h) = finite false m e p
+
+-- .. an infinity among them on the left
+pub sum-not-nan : (x y : Float) → T (not (isNan x)) → Finite y → T (not (isNan (x ⊕ y)))
+unfolding isNan
+sum-not-nan nan y h f = absurd h
+sum-not-nan (inf s) y h (finite t n d q) = subst (λ z. T (not (isNan (inf s ⊕ z)))) (sym q) (unfold add in tt)
+sum-not-nan (fin s m e) y h f = plus-number (fin s m e) y (finite s m e refl) f
+
+-- between two finite numbers there are finite ones
+pub clamp-finite : (lo hi x : Float) → Finite lo → Finite hi → T (not (isNan x)) → Finite (clampOf lo hi x)
+unfolding clampOf
+clamp-finite lo hi nan l h n = absurd (unfold isNan in n)
+clamp-finite lo hi (inf true) (finite s m e p) h n = subst (λ z. Finite (cond (lt (inf true) z) lo (cond (lt hi (inf true)) hi (inf true)))) (sym p) (unfold lt in finite s m e p)
+clamp-finite lo hi (inf false) (finite s m e p) (finite t k d q) n =
+    subst (λ z. Finite (cond (lt (inf false) z) lo (cond (lt hi (inf false)) hi (inf false)))) (sym p)
+    (subst (λ z. Finite (cond (lt (inf false) (fin s m e)) lo (cond (lt z (inf false)) hi (inf false)))) (sym q) (unfold lt in finite t k d q))
+clamp-finite lo hi (fin s m e) l h n = go (lt (fin s m e) lo) (lt hi (fin s m e))
+  where
+    go : (a b : Bool) → Finite (cond a lo (cond b hi (fin s m e)))
+    go true b = l
+    go false true = h
+    go false false = finite s m e refl
+
 -- a small number and a half
 pub half-more : (x : Float) → Small (2 ^ 60) x → Finite (x ⊕ d64 5 10)
 half-more x (small m e p h) = subst (λ z. Finite (z ⊕ d64 5 10)) (sym p) (subst (λ z. Finite (fin false m e ⊕ z)) (sym half) go)
@@ -183,9 +226,6 @@ half-more x (small m e p h) = subst (λ z. Finite (z ⊕ d64 5 10)) (sym p) (sub
     bound : m * up e * 2 + 1 * 1 * down e ≤ 2 ^ 61 * (down e * 2)
     bound = omega arith
 
-    of-small : (z : Float) → Small (2 ^ 61) z → Finite z
-    of-small z (small n d q k) = finite false n d q
-
     go : Finite (fin false m e ⊕ fin false 1 (lib.IntN.negsuc 0))
-    go = unfold add sum in of-small (round binary64 false (m * up e * 2 + 1 * 1 * down e) (down e * 2)) (round-small 61 (m * up e * 2 + 1 *
+    go = unfold add sum in small-finite (round-small 61 (m * up e * 2 + 1 *
         1 * down e) (down e * 2) (native.Mathlib.Nat.mul-pos (down-pos e) (omega arith)) power-61 bound)

@@ -25,6 +25,7 @@ use Rattle.fiducials.proofs.Unique.{corners-mark, marked-unique}
 use Rattle.fit.specs.Contracts.{sampledCells}
 use Rattle.fit.specs.Fits.{noFit}
 use Rattle.fit.specs.declared.GeometryFit.{GeometryFit}
+use Rattle.search.specs.Counts.{Counts}
 use Rattle.search.specs.Stages.{keeps, searched}
 use Rattle.search.specs.declared.Outcome.{Outcome}
 use Rattle.search.specs.declared.Stage.{Stage}
@@ -182,12 +183,13 @@ module _ (img : Image) (f : FrameSpec) (a : Lent) where
             corners = h .corners;
             best = h .best;
             found = h .found;
-            tried-all = h .tried-all;
+            counts = h .counts;
             laid = λ z. sym (laid-warped (p .number) img f (p .stage .fit) (a .canonical) z);
             kept = λ z. sym (laid-kept (p .number) img f (p .stage .fit) (a .canonical) (λ y. absurd (omega arith)));
             fruitless = h .fruitless;
             scored = λ z. score-kept (p .stage .kept) (keeps-some z) (s z);
             undecided = λ z. absurd (let y = most-ten in omega arith);
+            undecided-counts = λ z. absurd (let y = most-ten in omega arith);
           }
 
       rectifying : Rectifies p
@@ -221,12 +223,14 @@ module _ (img : Image) (f : FrameSpec) (a : Lent) where
             corners = λ x. absurd (omega arith);
             best = λ x. absurd (omega arith);
             found = λ x. absurd (omega arith);
-            tried-all = λ x. absurd (omega arith);
+            counts = λ x. absurd (omega arith);
             laid = λ x. absurd (omega arith);
             kept = λ x. sym (laid-kept 16 img f noFit (a .canonical) (λ y. omega arith));
             fruitless = λ x. absurd (omega arith);
             scored = λ x. absurd (omega arith);
             undecided = λ x q m. ap withoutFit (h .found z ∙ ap (searched img f) (marked-unique img f (centers z) q (centers-mark z) m));
+            undecided-counts = λ x q m.
+                subst (λ (c : Quad). Counts img f c (p .stage .tried) (p .stage .homographies)) (marked-unique img f (centers z) q (centers-mark z) m) (h .counts z);
           }
 
       rectifying-unscored : Rectifies none

@@ -20,6 +20,7 @@ use Rattle.fit.specs.declared.Grade.the-variants.{Score, Outside, TooFew}
 use Rattle.fit.specs.Contracts.{MeansKept}
 use Rattle.fit.specs.Fits.{noFit}
 use Rattle.search.specs.Stages.{begun, searched, lastCenter, BestTrial}
+use Rattle.search.specs.Counts.{Counts}
 use Rattle.search.specs.declared.Outcome.{Outcome}
 use Rattle.search.specs.declared.Outcome.the-variants.{NoHomography, Graded}
 use Rattle.search.specs.declared.Stage.{Stage}
@@ -109,8 +110,8 @@ pub record Seen (img : Image) (f : FrameSpec) (a b : Lent) (r : PictureFit) (num
   -- .. and it is the one that the stages keep, with its grade, [12.6] the trials tried and how many had a homography:
   -- this says which trial it is where a NaN leaves several
   pub found : number ≡ 0 → stageOf r ≡ searched img f (centersAt (b .areas .patches) (r .places))
-  -- [12.6] 78 when accepted
-  pub tried-all : number ≡ 0 → r .tried ≡ 78
+  -- [26.2, 26.3, 26.6] the different lens terms tried, those with a homography, and from 43 to 78 when accepted
+  pub counts : number ≡ 0 → Counts img f (centersAt (b .areas .patches) (r .places)) (r .tried) (r .homographies)
   -- [0.6] every canonical pixel is the reading where that fit puts it
   pub laid : number ≡ 0 → b .canonical ≡ warped img f (r .fit) (a .canonical)
   -- [0.1, 21.9] a refused rectification leaves the canonical image as it was
@@ -121,6 +122,8 @@ pub record Seen (img : Image) (f : FrameSpec) (a b : Lent) (r : PictureFit) (num
   pub scored : number ≡ 0 → (s : Float) × (r .kept ≡ Graded (Score s))
   -- [21.9] by 16: the kept trial's grade and the counts of the whole search, and no fit
   pub undecided : number ≡ 16 → (q : Quad) → MarkedBy img f q → stageOf r ≡ withoutFit (searched img f q)
+  -- [26.2, 26.3] .. which are counted alike
+  pub undecided-counts : number ≡ 16 → (q : Quad) → MarkedBy img f q → Counts img f q (r .tried) (r .homographies)
 
 -- ---- `rectify`: the answer r, and beside it the number `beyond`
 pub record Rectification (img : Image) (f : FrameSpec) (a b : Lent) (r : PictureFit) (beyond : ℕ) : Type 0 where

@@ -34,18 +34,37 @@ pub replaces-more : {o : Outcome} (b g : Grade) → o ≡ Graded b → lt (score
 unfolding replaces
 replaces-more b g e = sym (ap (λ z. replaces z g) e)
 
-module _ (t : GeometryFit) (s : Stage) {o : Outcome} where
-  pub staged-none : o ≡ NoHomography → record { kept = s .kept; fit = s .fit; tried = s .tried + 1; homographies = s .homographies } ≡ staged o t s
+module _ (c : ℕ) (t : GeometryFit) (s : Stage) {o : Outcome} where
+  pub staged-none : o ≡ NoHomography → record { kept = s .kept; fit = s .fit; tried = s .tried + c; homographies = s .homographies } ≡ staged c o t s
   unfolding staged
-  staged-none e = sym (ap (λ z. staged z t s) e)
+  staged-none e = sym (ap (λ z. staged c z t s) e)
 
-  pub staged-takes : {g : Grade} → o ≡ Graded g → replaces (s .kept) g ≡ true → takes g t s ≡ staged o t s
+  pub staged-takes : {g : Grade} → o ≡ Graded g → replaces (s .kept) g ≡ true → takes c g t s ≡ staged c o t s
   unfolding staged
-  staged-takes e r = pick-yes _ _ _ r ∙ sym (ap (λ z. staged z t s) e)
+  staged-takes e r = pick-yes _ _ _ r ∙ sym (ap (λ z. staged c z t s) e)
 
-  pub staged-stays : {g : Grade} → o ≡ Graded g → replaces (s .kept) g ≡ false → stays s ≡ staged o t s
+  pub staged-stays : {g : Grade} → o ≡ Graded g → replaces (s .kept) g ≡ false → stays c s ≡ staged c o t s
   unfolding staged
-  staged-stays e r = pick-no _ _ _ r ∙ sym (ap (λ z. staged z t s) e)
+  staged-stays e r = pick-no _ _ _ r ∙ sym (ap (λ z. staged c z t s) e)
+
+-- what a trial that adds c to the trials adds to the homographies
+unfoldable pub mappedBy : Outcome → ℕ → ℕ
+mappedBy NoHomography c = 0
+mappedBy (Graded g) c = c
+
+pub staged-counts : (c : ℕ) (o : Outcome) (t : GeometryFit) (s : Stage) → (staged c o t s .tried ≡ s .tried + c) × (staged c o t s .homographies ≡ s .homographies + mappedBy o c)
+unfolding staged mappedBy
+staged-counts c NoHomography t s = (refl, omega arith)
+staged-counts c (Graded g) t s = go (replaces (s .kept) g)
+  where
+    go : (b : Bool) → (cond b (takes c g t s) (stays c s) .tried ≡ s .tried + c) × (cond b (takes c g t s) (stays c s) .homographies ≡ s .homographies + c)
+    go true = (refl, refl)
+    go false = (refl, refl)
+
+pub mapped-most : (o : Outcome) (c : ℕ) → mappedBy o c ≤ c
+unfolding mappedBy
+mapped-most NoHomography c = omega arith
+mapped-most (Graded g) c = omega arith
 
 -- ---- a trial
 module _ (img : Image) (f : FrameSpec) (q : Quad) (k : Float) (s : Fitted) (e : s ≡ fittedFor (img .w) (img .h) f q k) where
@@ -74,14 +93,14 @@ module _ (img : Image) (f : FrameSpec) (q : Quad) (k : Float) (s : Fitted) (e : 
       go false e = ap (λ (z : Fitted). record { outcome = NoHomography; fit = z .fit }) e
 
 -- a stage takes a trial by its outcome; the fit counts only where there is a homography
-pub staged-trial : (img : Image) (f : FrameSpec) (q : Quad) (k : Float) (s : Stage) → staged (trialOf img f q k .outcome) (trialOf img f q k
-    .fit) s ≡ staged (outcomeOf img f q k) (fitFor (img .w) (img .h) f q k) s
+pub staged-trial : (c : ℕ) (img : Image) (f : FrameSpec) (q : Quad) (k : Float) (s : Stage)
+    → staged c (trialOf img f q k .outcome) (trialOf img f q k .fit) s ≡ staged c (outcomeOf img f q k) (fitFor (img .w) (img .h) f q k) s
 unfolding trialOf outcomeOf
-staged-trial img f q k s = go (gradeOf img f (fitFor (img .w) (img .h) f q k)) (fitFor (img .w) (img .h) f q k) (fitsFor (img .w) (img .h) f q k)
+staged-trial c img f q k s = go (gradeOf img f (fitFor (img .w) (img .h) f q k)) (fitFor (img .w) (img .h) f q k) (fitsFor (img .w) (img .h) f q k)
   where
     go : (g : Grade) (t : GeometryFit) (b : Bool)
         → (let r : Trial = cond b (record { outcome = Graded g; fit = t }) (record { outcome = NoHomography; fit = noFit }) in
-        staged (r .outcome) (r .fit) s ≡ staged (cond b (Graded g) NoHomography) t s)
+        staged c (r .outcome) (r .fit) s ≡ staged c (cond b (Graded g) NoHomography) t s)
     go g t true = refl
     go g t false = unfold staged in refl
 

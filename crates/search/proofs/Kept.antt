@@ -2,7 +2,7 @@
 use mathlib.Core.Path.{_≡_, refl, sym, ap, subst, _∙_}
 use mathlib.Core.Bool.{Bool, true, false, not, cond}
 use mathlib.Core.Logic.{_⊎_, inl, inr, ⊎-elim}
-use Prim.Native.Nat.{ℕ, zero, suc, _+_, _<_}
+use Prim.Native.Nat.{ℕ, zero, suc, _<_}
 use native.Mathlib.Omega.{arith}
 use lib.Dec.{T, T-not, not-T}
 use lib.Ieee.{Float, lt, le, isNan}
@@ -17,7 +17,7 @@ use Rattle.base.specs.Loops.{turns}
 use Rattle.base.proofs.Arith.{last-or}
 use Rattle.frame.specs.Image.{Image}
 use Rattle.fit.specs.Grid.{scoreOf, gradeOf}
-use Rattle.search.specs.Stages.{takes, stays, staged, replaces, more, asMuch, begun, stageFrom, entries, kAt, outcomeOf, BestTrial, nextStage, firstStage}
+use Rattle.search.specs.Stages.{takes, stays, staged, replaces, more, asMuch, begun, stageFrom, entries, kAt, fresh, outcomeOf, BestTrial, nextStage, firstStage}
 use Rattle.search.specs.Stages.{secondStage, searched, lastCenter, onKept, keeps, Barren, BarrenStage, KeptGrade, KeptOutside}
 use Rattle.fit.specs.Fits.{fitFor, fitsFor}
 use Rattle.fit.proofs.First.{outside-first}
@@ -25,7 +25,6 @@ use Rattle.fit.specs.declared.Grade.the-variants.{Outside}
 use Rattle.search.specs.Stages.BarrenStage.{first, second, third}
 use Rattle.float.proofs.Ordering.{step-lt, lt-trans, lt-irrefl, lt-not-le, not-le-nan}
 use Rattle.float.specs.Floats.{f64}
-use Rattle.search.proofs.Entries.{stage-lengths}
 
 -- trial e of the first n, with outcomes o and fits t, is the one that the stage s keeps; or none of them has a homography
 pub data Keeps (o : ℕ → Outcome) (t : ℕ → GeometryFit) (n : ℕ) (s : Stage) : Type 0 where
@@ -65,9 +64,9 @@ not-more : (b g : Grade) → T (not (lt (scoreOf g) (scoreOf b))) → T (not (mo
 unfolding more
 not-more b g h = h
 
-module _ (o : ℕ → Outcome) (t : ℕ → GeometryFit) where
+module _ (c : ℕ → ℕ) (o : ℕ → Outcome) (t : ℕ → GeometryFit) where
   -- one more trial, by its outcome x
-  one-more : (n : ℕ) (s : Stage) (x : Outcome) → o n ≡ x → Keeps o t n s → Keeps o t (suc n) (staged x (t n) s)
+  one-more : (n : ℕ) (s : Stage) (x : Outcome) → o n ≡ x → Keeps o t n s → Keeps o t (suc n) (staged (c n) x (t n) s)
   unfolding staged
   one-more n s NoHomography e (none k f) = none k (λ i h. ⊎-elim (λ p. ap o p ∙ e) (λ l. f i l) (last-or i n h))
   one-more n s NoHomography e (some a g l p k q m u) =
@@ -80,10 +79,10 @@ module _ (o : ℕ → Outcome) (t : ℕ → GeometryFit) where
       (λ y. T (not (more y (Graded b)))) (sym (f i w)) (no-more b)) (last-or i n h))
       (λ i h. subst (λ y. T (not (asMuch y (Graded b)))) (sym (f i h)) (no-as-much b)))
     where
-      taken : (y : Outcome) → y ≡ NoHomography → cond (replaces y b) (takes b (t n) s) (stays s) ≡ takes b (t n) s
-      taken y e = ap (λ z. cond (replaces z b) (takes b (t n) s) (stays s)) e ∙ always
+      taken : (y : Outcome) → y ≡ NoHomography → cond (replaces y b) (takes (c n) b (t n) s) (stays (c n) s) ≡ takes (c n) b (t n) s
+      taken y e = ap (λ z. cond (replaces z b) (takes (c n) b (t n) s) (stays (c n) s)) e ∙ always
         where
-          always : cond (replaces NoHomography b) (takes b (t n) s) (stays s) ≡ takes b (t n) s
+          always : cond (replaces NoHomography b) (takes (c n) b (t n) s) (stays (c n) s) ≡ takes (c n) b (t n) s
           always = unfold replaces in refl
   one-more n s (Graded b) e (some a g l p k q m u) = go (replaces (s .kept) b) refl
     where
@@ -93,11 +92,11 @@ module _ (o : ℕ → Outcome) (t : ℕ → GeometryFit) where
           by-score : replaces (Graded g) b ≡ lt (scoreOf g) (scoreOf b)
           by-score = unfold replaces in refl
 
-      beaten : (c : Bool) → replaces (s .kept) b ≡ c → lt (scoreOf g) (scoreOf b) ≡ c
-      beaten c r = sym test ∙ r
+      beaten : (w : Bool) → replaces (s .kept) b ≡ w → lt (scoreOf g) (scoreOf b) ≡ w
+      beaten w r = sym test ∙ r
 
-      go : (c : Bool) → replaces (s .kept) b ≡ c
-          → Keeps o t (suc n) (cond c (takes b (t n) s) (stays s))
+      go : (w : Bool) → replaces (s .kept) b ≡ w
+          → Keeps o t (suc n) (cond w (takes (c n) b (t n) s) (stays (c n) s))
       go true r =
           let w : T (lt (scoreOf g) (scoreOf b)) = subst T (sym (beaten true r)) tt in
           some n b (omega arith) e refl refl
@@ -109,10 +108,10 @@ module _ (o : ℕ → Outcome) (t : ℕ → GeometryFit) where
           (λ i h. ⊎-elim (λ v. subst (λ y. T (not (more y (Graded g)))) (sym (ap o v ∙ e)) (not-more b g w)) (λ v. m i v) (last-or i n h)) u
 
   -- after all of them
-  pub kept-trial : (n tried homographies : ℕ) → Keeps o t n (turns n (λ i s. staged (o i) (t i) s) (begun tried homographies))
+  pub kept-trial : (n tried homographies : ℕ) → Keeps o t n (turns n (λ i s. staged (c i) (o i) (t i) s) (begun tried homographies))
   unfolding turns
   kept-trial zero tried homographies = none refl (λ i h. absurd (omega arith))
-  kept-trial (suc n) tried homographies = one-more n (turns n (λ i s. staged (o i) (t i) s) (begun tried homographies)) (o n) refl (kept-trial n tried homographies)
+  kept-trial (suc n) tried homographies = one-more n (turns n (λ i s. staged (c i) (o i) (t i) s) (begun tried homographies)) (o n) refl (kept-trial n tried homographies)
 
 -- ---- the last stage of a search
 
@@ -138,7 +137,7 @@ module _ (img : Image) (f : FrameSpec) (q : Quad) (j : ℕ) (center : Float) (tr
   -- the trial that a stage keeps is its best, and the first of the best
   pub stage-best : (g : Grade) → stageFrom img f q j center tried homographies .kept ≡ Graded g → BestTrial img f q j center (stageFrom img f q j center tried homographies .fit)
   unfolding stageFrom
-  stage-best g e = go (kept-trial (λ i. outcomeOf img f q (kAt j center i)) (λ i. fitFor (img .w) (img .h) f q (kAt j center i)) (entries j) tried homographies)
+  stage-best g e = go (kept-trial (fresh j center) (λ i. outcomeOf img f q (kAt j center i)) (λ i. fitFor (img .w) (img .h) f q (kAt j center i)) (entries j) tried homographies)
     where
       go : Keeps (λ i. outcomeOf img f q (kAt j center i)) (λ i. fitFor (img .w) (img .h) f q (kAt j center i)) (entries j) (stageFrom img f q j center tried homographies)
           → BestTrial img f q j center (stageFrom img f q j center tried homographies .fit)
@@ -156,7 +155,7 @@ module _ (img : Image) (f : FrameSpec) (q : Quad) (j : ℕ) (center : Float) (tr
   -- and its grade is that of its fit
   stage-grade : (g : Grade) → stageFrom img f q j center tried homographies .kept ≡ Graded g → g ≡ gradeOf img f (stageFrom img f q j center tried homographies .fit)
   unfolding stageFrom
-  stage-grade g e = go (kept-trial (λ i. outcomeOf img f q (kAt j center i)) (λ i. fitFor (img .w) (img .h) f q (kAt j center i)) (entries j) tried homographies)
+  stage-grade g e = go (kept-trial (fresh j center) (λ i. outcomeOf img f q (kAt j center i)) (λ i. fitFor (img .w) (img .h) f q (kAt j center i)) (entries j) tried homographies)
     where
       go : Keeps (λ i. outcomeOf img f q (kAt j center i)) (λ i. fitFor (img .w) (img .h) f q (kAt j center i)) (entries j) (stageFrom img f q j center tried homographies)
           → g ≡ gradeOf img f (stageFrom img f q j center tried homographies .fit)
@@ -168,7 +167,7 @@ module _ (img : Image) (f : FrameSpec) (q : Quad) (j : ℕ) (center : Float) (tr
   -- a stage keeps none exactly when no trial of it has a homography
   pub stage-none : stageFrom img f q j center tried homographies .kept ≡ NoHomography → (i : ℕ) → i < entries j → outcomeOf img f q (kAt j center i) ≡ NoHomography
   unfolding stageFrom
-  stage-none e = go (kept-trial (λ i. outcomeOf img f q (kAt j center i)) (λ i. fitFor (img .w) (img .h) f q (kAt j center i)) (entries j) tried homographies)
+  stage-none e = go (kept-trial (fresh j center) (λ i. outcomeOf img f q (kAt j center i)) (λ i. fitFor (img .w) (img .h) f q (kAt j center i)) (entries j) tried homographies)
     where
       go : Keeps (λ i. outcomeOf img f q (kAt j center i)) (λ i. fitFor (img .w) (img .h) f q (kAt j center i)) (entries j) (stageFrom img f q j center tried homographies)
           → (i : ℕ) → i < entries j → outcomeOf img f q (kAt j center i) ≡ NoHomography
@@ -208,52 +207,6 @@ kept-grade img f q g e =
 
 pub kept-outside : KeptOutside
 kept-outside img f q cell e = outside-first img f (searched img f q .fit) cell (sym (kept-grade img f q (Outside cell) e))
-
--- ---- the counts
-
-module _ (o : ℕ → Outcome) (t : ℕ → GeometryFit) (tried homographies : ℕ) where
-  pub counted : (n : ℕ) → turns n (λ i s. staged (o i) (t i) s) (begun tried homographies) .tried ≡ tried + n
-  unfolding turns
-  counted zero = omega arith
-  counted (suc n) = go (turns n (λ i s. staged (o i) (t i) s) (begun tried homographies)) (o n) (counted n)
-    where
-      take : (b : Bool) (g : Grade) (s : Stage) → s .tried ≡ tried + n → cond b (takes g (t n) s) (stays s) .tried ≡ tried + suc n
-      take true g s e = omega arith
-      take false g s e = omega arith
-
-      go : (s : Stage) (x : Outcome) → s .tried ≡ tried + n → staged x (t n) s .tried ≡ tried + suc n
-      go s NoHomography e = unfold staged in omega arith
-      go s (Graded g) e = unfold staged in take (replaces (s .kept) g) g s e
-
-module _ (img : Image) (f : FrameSpec) (q : Quad) where
-  stage-tried : (j : ℕ) (center : Float) (tried homographies : ℕ) → stageFrom img f q j center tried homographies .tried ≡ tried + entries j
-  unfolding stageFrom
-  stage-tried j center tried homographies = counted (λ i. outcomeOf img f q (kAt j center i)) (λ i. fitFor (img .w) (img .h) f q (kAt j center i)) tried homographies (entries j)
-
-  -- a stage after one that kept a trial, and what it says of that one
-  next-tried : (j : ℕ) (s : Stage) (g : Grade) → nextStage img f q j s .kept ≡ Graded g → (nextStage img f q j s .tried ≡ s .tried + entries j) × ((b : Grade) × (s .kept ≡ Graded b))
-  unfolding nextStage
-  next-tried j s g e = go (s .kept) refl e
-    where
-      go : (o : Outcome) → s .kept ≡ o
-          → onKept o s (stageFrom img f q j (s .fit .radial .k) (s .tried) (s .homographies)) .kept ≡ Graded g
-          → (onKept o s (stageFrom img f q j (s .fit .radial .k) (s .tried) (s .homographies)) .tried ≡ s .tried + entries j) × ((b : Grade) × (s .kept ≡ Graded b))
-      go NoHomography k e = absurd (let z : _≡_ {A = ℕ} 0 1 = cc in omega arith)
-      go (Graded b) k e = (stage-tried j (s .fit .radial .k) (s .tried) (s .homographies), (b, k))
-
-  -- [12.6] trials tried: 78 when accepted
-  pub tried-78 : (g : Grade) → searched img f q .kept ≡ Graded g → searched img f q .tried ≡ 78
-  unfolding searched secondStage firstStage
-  tried-78 g e =
-      let third = next-tried 2 (secondStage img f q) g e in
-      let second = next-tried 1 (firstStage img f q) (third .1 .0) (third .1 .1) in
-      let a : searched img f q .tried ≡ secondStage img f q .tried + entries 2 = third .0 in
-      let b : secondStage img f q .tried ≡ firstStage img f q .tried + entries 1 = second .0 in
-      let c : firstStage img f q .tried ≡ 0 + entries 0 = stage-tried 0 (f64 0) 0 0 in
-      let n0 : entries 0 ≡ 41 = stage-lengths .0 in
-      let n1 : entries 1 ≡ 21 = stage-lengths .1 in
-      let n2 : entries 2 ≡ 16 = stage-lengths .2 in
-      omega arith
 
 -- ---- 10: a search keeps none exactly when a stage is barren
 
@@ -333,35 +286,3 @@ module _ (img : Image) (f : FrameSpec) (q : Quad) where
   barren-search (first b) = after-none 2 (secondStage img f q) (after-none 1 (firstStage img f q) (barren-stage 0 (f64 0) 0 0 b))
   barren-search (second k b) = after-none 2 (secondStage img f q) (barren-next 1 (firstStage img f q) b)
   barren-search (third k b) = barren-next 2 (secondStage img f q) b
-
--- ---- the homographies are counted over the trials
-
-mapped : Outcome → ℕ
-mapped NoHomography = 0
-mapped (Graded g) = 1
-
-unfoldable pub mappedOf : (ℕ → Outcome) → ℕ → ℕ
-unfolding mapped
-mappedOf o zero = 0
-mappedOf o (suc n) = mappedOf o n + mapped (o n)
-
-module _ (o : ℕ → Outcome) (t : ℕ → GeometryFit) (tried homographies : ℕ) where
-  pub mapped-counted : (n : ℕ) → turns n (λ i s. staged (o i) (t i) s) (begun tried homographies) .homographies ≡ homographies + mappedOf o n
-  unfolding turns mappedOf
-  mapped-counted zero = omega arith
-  mapped-counted (suc n) = go (turns n (λ i s. staged (o i) (t i) s) (begun tried homographies)) (o n) (mapped-counted n)
-    where
-      take : (b : Bool) (g : Grade) (s : Stage) → s .homographies ≡ homographies + mappedOf o n → cond b (takes g (t n) s) (stays s) .homographies ≡ homographies + (mappedOf o n + 1)
-      take true g s e = omega arith
-      take false g s e = omega arith
-
-      go : (s : Stage) (x : Outcome) → s .homographies ≡ homographies + mappedOf o n → staged x (t n) s .homographies ≡ homographies + (mappedOf o n + mapped x)
-      go s NoHomography e = unfold staged mapped in omega arith
-      go s (Graded g) e = unfold staged mapped in take (replaces (s .kept) g) g s e
-
--- [12.6] how many had a homography: a stage adds the trials of it that have one
-pub stage-mapped : (img : Image) (f : FrameSpec) (q : Quad) (j : ℕ) (center : Float) (tried homographies : ℕ)
-    → stageFrom img f q j center tried homographies .homographies ≡ homographies + mappedOf (λ i. outcomeOf img f q (kAt j center i)) (entries j)
-unfolding stageFrom
-stage-mapped img f q j center tried homographies =
-    mapped-counted (λ i. outcomeOf img f q (kAt j center i)) (λ i. fitFor (img .w) (img .h) f q (kAt j center i)) tried homographies (entries j)

@@ -16,30 +16,18 @@ use Rattle.base.proofs.Tests.{and-left, and-right}
 use Rattle.frame.specs.Image.{Image}
 use Rattle.frame.specs.declared.FrameSpec.{FrameSpec}
 use Rattle.frame.specs.declared.Quad.{Quad}
-use Rattle.fit.specs.declared.GeometryFit.{GeometryFit}
 use Rattle.search.specs.declared.Outcome.{Outcome}
 use Rattle.search.specs.declared.Outcome.the-variants.{NoHomography, Graded}
 use Rattle.search.specs.declared.Stage.{Stage}
 use Rattle.search.specs.declared.Search.{Search}
-use Rattle.search.specs.Stages.{entries, trialStep, begun, keeps, staged, takes, stays, replaces, outcomeOf, kAt, stageFrom, nextStage, onKept, firstStage, secondStage, searched}
+use Rattle.search.specs.Stages.{entries, trialStep, begun, keeps, outcomeOf, kAt, fresh, stageFrom, nextStage, onKept, firstStage, secondStage, searched}
 use Rattle.fit.specs.Fits.{fitFor}
 use Rattle.search.specs.Turn.{beginning, advanced, turnOf, Counting}
-use Rattle.search.proofs.Cases.{advanced-entry, advanced-stage, advanced-over}
+use Rattle.search.proofs.Cases.{staged-counts, mapped-most, advanced-entry, advanced-stage, advanced-over}
 use Rattle.search.proofs.Entries.{stage-lengths}
+use Rattle.search.proofs.Terms.{fresh-most}
 
--- ---- a trial counts one more
-abbrev Counted : Stage → Stage → Type 0
-Counted s t = (t .tried ≡ s .tried + 1) × (t .homographies ≤ s .homographies + 1)
-
-staged-counts : (o : Outcome) (t : GeometryFit) (s : Stage) → Counted s (staged o t s)
-unfolding staged
-staged-counts NoHomography t s = (refl, omega arith)
-staged-counts (Graded g) t s = go (replaces (s .kept) g)
-  where
-    go : (b : Bool) → Counted s (cond b (takes g t s) (stays s))
-    go true = (refl, omega arith)
-    go false = (refl, omega arith)
-
+-- ---- the next entry's counts are those of this one
 advanced-counts : (s : Search) (t : Stage) → (advanced s t .stage .tried ≡ t .tried) × (advanced s t .stage .homographies ≡ t .homographies)
 unfolding advanced
 advanced-counts s t = go (ltb (s .entry + 1) (entries (s .number))) (keeps (t .kept) && ltb (s .number) 2)
@@ -323,12 +311,14 @@ module _ (img : Image) (f : FrameSpec) (q : Quad) where
       let t = trialStep img f q (s .number) (s .center) (s .entry) (s .stage) in
       let is : turnOf img f q s ≡ advanced s t = unfold turnOf in sym (pick-no _ _ _ e) in
       let a = advanced-counts s t in
-      let b = staged-counts (outcomeOf img f q (kAt (s .number) (s .center) (s .entry))) (fitFor (img .w) (img .h) f q (kAt (s .number) (s .center) (s .entry))) (s .stage) in
-      let x : turnOf img f q s .stage .tried ≡ s .stage .tried + 1 = ap (λ (z : Search). z .stage .tried) is ∙ a .0 ∙ b .0 in
+      let n = fresh (s .number) (s .center) (s .entry) in
+      let o = outcomeOf img f q (kAt (s .number) (s .center) (s .entry)) in
+      let b = staged-counts n o (fitFor (img .w) (img .h) f q (kAt (s .number) (s .center) (s .entry))) (s .stage) in
+      let x : turnOf img f q s .stage .tried ≡ s .stage .tried + n = ap (λ (z : Search). z .stage .tried) is ∙ a .0 ∙ b .0 in
       let y : turnOf img f q s .stage .homographies ≡ t .homographies = ap (λ (z : Search). z .stage .homographies) is ∙ a .1 in
       record {
-        tried-in = omega (arith, turn-left s r e, h .tried-in);
-        homographies-in = omega (arith, b .1, h .homographies-in);
+        tried-in = omega (arith, fresh-most (s .number) (s .center) (s .entry), turn-left s r e, h .tried-in);
+        homographies-in = omega (arith, b .1, mapped-most o n, h .homographies-in);
       }
 
   pub turn-counting : (s : Search) → Reached s → s .ended ≡ false → Held s → Counting s

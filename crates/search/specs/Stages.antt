@@ -3,8 +3,8 @@ use Prim.Native.Nat.{ℕ, zero, suc, _+_, _<_}
 use mathlib.Core.Path.{_≡_}
 use mathlib.Core.Bool.{Bool, true, false, cond, not}
 use lib.Dec.{T}
-use lib.Ieee.{Float, neg, lt, le}
-use Rattle.base.specs.Loops.{turns}
+use lib.Ieee.{Float, neg, lt, le, eq}
+use Rattle.base.specs.Loops.{turns, every}
 use Rattle.float.specs.Floats.{_⊕_, _⊖_, _⊗_, _⊘_, f64, d64, roundOf, asUsize, clampOf}
 use Rattle.frame.specs.Image.{Image}
 use Rattle.fit.specs.Grid.{gradeOf, scoreOf}
@@ -42,6 +42,11 @@ entries j = asUsize (roundOf (f64 2 ⊗ span j ⊘ step j)) + 1
 unfoldable pub kAt : ℕ → Float → ℕ → Float
 kAt j center i = clampOf (neg kMax) kMax (center ⊖ span j ⊕ step j ⊗ f64 i)
 
+-- [26.2] "the number of different k after clamping": an entry adds 1 where no earlier entry of its stage has the same
+-- k, else 0. Counts says the sums by meaning
+unfoldable pub fresh : ℕ → Float → ℕ → ℕ
+fresh j center i = cond (every i (λ l. not (eq (kAt j center l) (kAt j center i)))) 1 0
+
 -- ---- a trial
 
 -- [12.4] a trial without homography is skipped; otherwise its outcome wraps a grade: the outcome of the trial of k
@@ -57,22 +62,28 @@ unfoldable pub replaces : Outcome → Grade → Bool
 replaces NoHomography g = true
 replaces (Graded b) g = lt (scoreOf b) (scoreOf g)
 
--- the stage after one more trial with a homography: this one is kept, or the one kept before
-abbrev pub takes : Grade → GeometryFit → Stage → Stage
-takes g t s = record { kept = Graded g; fit = t; tried = s .tried + 1; homographies = s .homographies + 1 }
+-- the stage after one more trial with a homography, which adds c to the counts: this one is kept, or the one before
+abbrev pub takes : ℕ → Grade → GeometryFit → Stage → Stage
+takes c g t s = record { kept = Graded g; fit = t; tried = s .tried + c; homographies = s .homographies + c }
 
-abbrev pub stays : Stage → Stage
-stays s = record { kept = s .kept; fit = s .fit; tried = s .tried + 1; homographies = s .homographies + 1 }
+abbrev pub stays : ℕ → Stage → Stage
+stays c s = record { kept = s .kept; fit = s .fit; tried = s .tried + c; homographies = s .homographies + c }
 
--- the stage after one more trial, which had the outcome o and the fit t
-unfoldable pub staged : Outcome → GeometryFit → Stage → Stage
-staged NoHomography t s = record { kept = s .kept; fit = s .fit; tried = s .tried + 1; homographies = s .homographies }
-staged (Graded g) t s = cond (replaces (s .kept) g) (takes g t s) (stays s)
+-- the stage after one more trial, which adds c to the counts and had the outcome o and the fit t; [26.3] "the
+-- homography count follows the same rule"
+unfoldable pub staged : ℕ → Outcome → GeometryFit → Stage → Stage
+staged c NoHomography t s = record {
+  kept = s .kept;
+  fit = s .fit;
+  tried = s .tried + c;
+  homographies = s .homographies;
+}
+staged c (Graded g) t s = cond (replaces (s .kept) g) (takes c g t s) (stays c s)
 
--- entry i of stage j around a centre
+-- entry i of stage j around a centre: [26.1] it is tried whether its k is another or one that was tried before
 abbrev pub trialStep : Image → FrameSpec → Quad → ℕ → Float → ℕ → Stage → Stage
 trialStep img f q j center i s =
-    staged (outcomeOf img f q (kAt j center i)) (fitFor (img .w) (img .h) f q (kAt j center i)) s
+    staged (fresh j center i) (outcomeOf img f q (kAt j center i)) (fitFor (img .w) (img .h) f q (kAt j center i)) s
 
 -- none kept, with the counts of the stages before
 abbrev pub begun : ℕ → ℕ → Stage
@@ -105,7 +116,10 @@ secondStage img f q = nextStage img f q 1 (firstStage img f q)
 unfoldable pub searched : Image → FrameSpec → Quad → Stage
 searched img f q = nextStage img f q 2 (secondStage img f q)
 
--- [12.1] the centre of the last stage: the k kept before
+-- [12.1] the centres of the second and of the last stage: the k kept before
+unfoldable pub secondCenter : Image → FrameSpec → Quad → Float
+secondCenter img f q = firstStage img f q .fit .radial .k
+
 unfoldable pub lastCenter : Image → FrameSpec → Quad → Float
 lastCenter img f q = secondStage img f q .fit .radial .k
 

@@ -81,10 +81,11 @@ pub fn turn(
     }
     let stage = search.stage;
     let k = stages::k_at(search.number, search.center, search.entry);
+    let counted = stages::fresh(search.number, search.center, search.entry);
     let t = trial(capture, w, h, frame, quad, k, means);
     let outcome = t.outcome;
     let fit = t.fit;
-    let next = stages::keep(outcome, fit, stage);
+    let next = stages::keep(outcome, fit, counted, stage);
     stages::advance(search, next)
 }
 

@@ -23,7 +23,8 @@ pub struct Trial {
 }
 
 // A stage of the lens search: the trial that it keeps, by its outcome and its fit, and the counts
-// of trials and homographies so far, those of earlier stages included.
+// so far, those of earlier stages included: the different lens terms that each stage tried, and how
+// many of them had a homography.
 pub struct Stage {
     pub kept: Outcome,
     pub fit: GeometryFit,

@@ -9,7 +9,7 @@ ghost use mathlib.Core.Path.{_≡_};
 ghost use mathlib.Core.Bool.{true, false};
 ghost use Prim.Native.Nat.{_+_, _≤_, _<_};
 ghost use Rattle.search.specs.Stages as spec;
-ghost use Rattle.search.specs.Turn.{Counting, advanced};
+ghost use Rattle.search.specs.Turn.{advanced};
 
 // A trial with this grade takes the place of the kept one: of none, and else only by scoring more.
 fn replaces(kept: Outcome, g: Grade) -> bool
@@ -21,14 +21,14 @@ fn replaces(kept: Outcome, g: Grade) -> bool
     }
 }
 
-// The stage after one more trial.
-pub fn keep(outcome: Outcome, fit: GeometryFit, s: Stage) -> Stage
-    requires { ⌜ (s .tried < 4294967295) × (s .homographies < 4294967295) ⌝ }
-    ensures { λ r. ⌜ r ≡ spec.staged outcome fit s ⌝ }
+// The stage after one more trial, which adds `counted` to its counts.
+pub fn keep(outcome: Outcome, fit: GeometryFit, counted: usize, s: Stage) -> Stage
+    requires { ⌜ (counted ≤ 1) × (s .tried < 4294967295) × (s .homographies < 4294967295) ⌝ }
+    ensures { λ r. ⌜ r ≡ spec.staged counted outcome fit s ⌝ }
 {
     let kept = s.kept;
     let before = s.fit;
-    let tried = s.tried + 1;
+    let tried = s.tried + counted;
     match outcome {
         Outcome::NoHomography => Stage {
             kept: kept,
@@ -42,14 +42,14 @@ pub fn keep(outcome: Outcome, fit: GeometryFit, s: Stage) -> Stage
                     kept: Outcome::Graded(g),
                     fit: fit,
                     tried: tried,
-                    homographies: s.homographies + 1,
+                    homographies: s.homographies + counted,
                 };
             }
             Stage {
                 kept: kept,
                 fit: before,
                 tried: tried,
-                homographies: s.homographies + 1,
+                homographies: s.homographies + counted,
             }
         }
     }
@@ -100,6 +100,22 @@ pub fn k_at(number: usize, center: f64, entry: usize) -> f64
 {
     let k = center - span(number) + step(number) * (entry as f64);
     float::clamp(k, -crate::K_MAX, crate::K_MAX)
+}
+
+// What an entry adds to the counts: 1, or 0 where an earlier entry of its stage has the same lens
+// term. It is compared with every earlier one, so that nothing has to be known of how rounded sums
+// rise.
+pub fn fresh(number: usize, center: f64, entry: usize) -> usize
+    requires { ⌜ entry < 41 ⌝ }
+    ensures { λ r. ⌜ (r ≡ spec.fresh number center entry) × (r ≤ 1) ⌝ }
+{
+    let k = k_at(number, center, entry);
+    for earlier in 0..entry {
+        if k_at(number, center, earlier) == k {
+            return 0;
+        }
+    }
+    1
 }
 
 // A stage that keeps none yet, with the counts of the stages before.

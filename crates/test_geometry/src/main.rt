@@ -10,12 +10,14 @@
 //   58        refused by 16: too few cells
 //   59, 60    one picture, by a frame with 15 sampled cells, and by one with 16: refused by 16, and
 //             accepted
+//   61 to 64  accepted, near the end of the lens terms' range: 61 different terms tried, with k =
+//             0.20 kept; 67; 68; 77, of which the second stage alone repeats one
 // After 16 the rest of the block is the answer of `fit_geometry`, which takes such a capture.
 mod file; // file.rt: a capture file
 mod print; // print.rt: an answer's lines
 
 fn main() {
-    answer_all(61);
+    answer_all(65);
 }
 
 // Rectifies the captures 0.cap, 1.cap .. of the folder that the program is run in, and prints each

@@ -5,6 +5,7 @@ use crate::original::{self as o, Answer, Flat, Look};
 use crate::{bits, pages, Case, Memory};
 use flatten::ffi;
 use std::fmt::Debug;
+use vectors::stages::possible_counts;
 
 fn eq<T: PartialEq + Debug>(what: &str, ours: T, theirs: T) -> Result<(), String> {
     if ours == theirs {
@@ -56,8 +57,12 @@ fn unscored(counts: &[u64], c: &Case, a: &Answer) -> Result<(), String> {
 }
 
 fn searched(counts: &[u64], flat: &Flat) -> Result<(), String> {
-    eq("trials", counts[ffi::TRIALS], 78)?;
-    eq("homographies", counts[ffi::HOMOGRAPHIES] as usize, flat.homographies)
+    let trials = counts[ffi::TRIALS];
+    eq("trials", trials, flat.trials)?;
+    if !possible_counts().contains(&trials) {
+        return Err(format!("trials: {trials}, and that is none of {:?}", possible_counts()));
+    }
+    eq("homographies", counts[ffi::HOMOGRAPHIES], flat.homographies)
 }
 
 fn fitted(counts: &[u64], fit: &[f64], c: &Case, a: &Answer) -> Result<(), String> {
@@ -69,9 +74,17 @@ fn fitted(counts: &[u64], fit: &[f64], c: &Case, a: &Answer) -> Result<(), Strin
     searched(counts, flat)
 }
 
-/// Runs every public function that takes a capture on both sides, and gives the refusal number of `rectify`. Where that is 16 the
-/// original's card is not compared with `rectify`'s, which has none; its fit is, with that of `fit_geometry`.
-pub fn check(c: &Case) -> Result<u32, String> {
+/// What both sides say of a capture.
+pub struct Agreed {
+    /// The refusal number of `rectify`.
+    pub number: u32,
+    /// Trials tried, where it accepts.
+    pub trials: Option<u64>,
+}
+
+/// Runs every public function that takes a capture on both sides. Where `rectify` refuses by 16 the original's card is not compared
+/// with `rectify`'s, which has none; its fit is, with that of `fit_geometry`.
+pub fn check(c: &Case) -> Result<Agreed, String> {
     let a = o::answer(c);
     let mut m = Memory::new(c.w, c.h, c.frame);
     m.canonical.fill(0xa5);
@@ -100,7 +113,7 @@ pub fn check(c: &Case) -> Result<u32, String> {
         unscored(&counts, c, &a)?;
     }
     others(c, &a)?;
-    Ok(number)
+    Ok(Agreed { number, trials: (number == 0).then_some(counts[ffi::TRIALS]) })
 }
 
 /// fiducial_candidates, detect_fiducials, fit_geometry, label_blobs, grid_score, warp_with and warp_record, each in memory of its

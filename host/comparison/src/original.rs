@@ -1,12 +1,12 @@
 //! The original's answers, with the refusal numbers that docs/REQUIREMENTS.md gives to its `None`s.
 
-use crate::{sampled, Case};
+use crate::{bits, sampled, Case};
 use flatten::{ffi, Frame};
 use lpcore::frame::FrameSpec;
 use lpcore::geometry as g;
 use lpcore::image::RgbImage;
 use lpcorepub::geometry as inner;
-use vectors::patches;
+use vectors::{patches, stages};
 
 /// A patch: the original's numbers and the outline, which it does not have.
 pub type Record = [u64; ffi::PATCH_LEN];
@@ -71,7 +71,9 @@ pub struct Flat {
     pub grade: Grade,
     /// Rust's score: −∞ where unscored.
     pub score: f64,
-    pub homographies: usize,
+    /// Different lens terms tried, added over the stages, and of them those with a homography.
+    pub trials: u64,
+    pub homographies: u64,
     pub canonical: Vec<u8>,
     /// Of the canonical image.
     pub beyond: usize,
@@ -109,8 +111,13 @@ fn integral(luma: &[f32], w: usize, h: usize) -> Vec<f64> {
     integral
 }
 
+/// The picture for the build with public items.
+fn inner_image(w: usize, h: usize, data: &[u8]) -> lpcorepub::image::RgbImage {
+    lpcorepub::image::RgbImage { w, h, data: data.to_vec() }
+}
+
 pub fn luma_plane(w: usize, h: usize, data: &[u8]) -> Vec<f32> {
-    inner::luma_plane(&lpcorepub::image::RgbImage { w, h, data: data.to_vec() })
+    inner::luma_plane(&inner_image(w, h, data))
 }
 
 /// Any nonzero byte is dark.
@@ -176,26 +183,15 @@ fn corners(l: &Look) -> [usize; 4] {
     [first_least(&|c| c[0] + c[1]), first_least(&|c| -(c[0] - c[1])), first_least(&|c| -(c[0] + c[1])), first_least(&|c| c[0] - c[1])]
 }
 
-/// How many of the 78 trials have a homography.
-fn homographies(img: &RgbImage, f: &FrameSpec, points: &[[f64; 2]; 4]) -> usize {
-    let (mut centre, mut count) = (0.0f64, 0);
-    for (span, step) in inner::K_STAGES {
-        let mut kept: Option<(f64, f64)> = None;
-        for i in 0..=(2.0 * span / step).round() as i64 {
-            let k = (centre - span + step * i as f64).clamp(-g::K_MAX, g::K_MAX);
-            let Some(fit) = g::fit_for(img, f, points, k) else { continue };
-            count += 1;
-            let score = g::grid_score(img, f, &fit);
-            if kept.is_none_or(|(best, _)| score > best) {
-                kept = Some((score, k));
-            }
-        }
-        match kept {
-            Some((_, k)) => centre = k,
-            None => return count,
-        }
-    }
-    count
+/// The lens search with counts, which the original does not have: by its parts, and it has to keep the original's fit.
+fn searched(case: &Case, f: &lpcorepub::frame::FrameSpec, points: &[[f64; 2]; 4], fit: &[f64; 13]) -> stages::Searched {
+    let s = stages::searched(&inner_image(case.w, case.h, &case.data), f, points);
+    let kept = s.kept.as_ref().map(|(_, inner::GeometryFit { h, radial })| {
+        let radial = g::Radial { k: radial.k, cx: radial.cx, cy: radial.cy, norm: radial.norm };
+        numbers(&g::GeometryFit { h: g::Homography::from_mat(h.m), radial }).map(bits)
+    });
+    assert_eq!(kept, Some(fit.map(bits)), "the search with counts is not the original's");
+    s
 }
 
 /// A tap of the cell lies outside the picture.
@@ -262,8 +258,9 @@ pub fn answer(case: &Case) -> Answer {
         let Some(fit) = g::fit_geometry(&img, &f) else { break 'number 10 };
         let (grade, score) = grade(&img, case.frame, &fit);
         let canonical = flat.as_ref().expect("a fit, and no card").data.clone();
-        let (homographies, beyond) = (homographies(&img, &f, &points), beyond(&fit, case.frame, case.w, case.h));
-        a.flat = Some(Flat { fit: numbers(&fit), grade, score, homographies, canonical, beyond });
+        let (beyond, fit) = (beyond(&fit, case.frame, case.w, case.h), numbers(&fit));
+        let stages::Searched { tried: trials, homographies, .. } = searched(case, &pub_spec, &points, &fit);
+        a.flat = Some(Flat { fit, grade, score, trials, homographies, canonical, beyond });
         0
     };
     assert_eq!(flat.is_some(), a.number == 0, "this package's numbers are not the original's");

@@ -66,7 +66,9 @@ pub struct Fitted {
     pub grade: Grade,
     /// The corners' patches by their places in the patch list: TL, TR, BR, BL.
     pub corners: [usize; 4],
+    /// Different lens terms that were tried, added over the three stages: 43 to 78.
     pub trials: usize,
+    /// Of them, those with a homography.
     pub homographies: usize,
 }
 
@@ -79,6 +81,7 @@ pub struct Rectified {
     pub phase: f64,
     /// The corners' patches by their places in the patch list: TL, TR, BR, BL.
     pub corners: [usize; 4],
+    /// As in `Fitted`.
     pub trials: usize,
     pub homographies: usize,
     /// How many of the card's pixels lie beyond the picture's edge: they have the edge's colours, which look real. 0 where the whole
@@ -339,7 +342,8 @@ impl Workspace {
         }
     }
 
-    /// Trials tried and homographies found by the last call where it was accepted or refused by 10 or 16; else 0.
+    /// Trials and homographies of the last call, as in `Fitted`, where it was accepted or refused by 10 or 16; else 0. After 10
+    /// they are those of the stages that were tried.
     pub fn trials(&self) -> (usize, usize) {
         (self.count(ffi::TRIALS), self.count(ffi::HOMOGRAPHIES))
     }

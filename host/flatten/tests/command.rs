@@ -96,7 +96,7 @@ fn too_few_cells_are_refused() {
     let json = folder.text("r");
     assert!(json.contains("\"refusal\": 16, \"score\": null, \"phase\": null, \"doubtful\": null, \"patches\": "), "{json}");
     assert!(json.contains("\"corners\": null, \"matrix\": null, \"k\": null, "), "{json}");
-    assert!(json.ends_with("\"grade\": {\"too_few\": true}, \"trials\": 78, \"homographies\": 78, \"beyond\": null}\n"), "{json}");
+    assert!(json.ends_with("\"grade\": {\"too_few\": true}, \"trials\": 61, \"homographies\": 61, \"beyond\": null}\n"), "{json}");
     assert_eq!(folder.text("p").lines().count(), 4);
     assert_ne!(folder.get("o"), folder.get("in.ppm"));
 }

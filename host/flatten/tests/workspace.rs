@@ -57,12 +57,35 @@ fn an_unscored_card_is_refused_with_its_grade() {
     let refusal = ws.rectify(&data).unwrap_err();
     assert_eq!((refusal.number(), refusal.responsible()), (16, Responsible::Photographer));
     assert!(ws.looked() && ws.candidates().len() == 4 && ws.patches().len() > 4);
-    assert_eq!((ws.grade(), ws.trials()), (Some(Grade::TooFew), (78, 78)));
+    // Every stage keeps its first term, −0.20.
+    assert_eq!((ws.grade(), ws.trials()), (Some(Grade::TooFew), (61, 61)));
     assert_eq!(ws.canonical(), before);
 
     // Patches alone have no grade.
     ws.label_blobs(&[1; 224 * 224]).unwrap();
     assert_eq!((ws.patches().len(), ws.grade()), (1, None));
+}
+
+/// A lens term that a stage tries again is one trial. The terms that are kept are the original's.
+#[test]
+fn different_lens_terms_are_counted() {
+    let (w, h, frame) = (190, 180, Frame { width: 240, height: 240, cell: 8, margin: 60 });
+    let card = scene::Frame { width: 240, height: 240, cell: 8, margin: 60 };
+    let mut scene = scene::Scene::straight(w, h, scene::Card::new(card, scene::Cells::Mixed(scene::FOUR, 1)), 0.9);
+    let mut ws = Workspace::new(w, h, frame).unwrap();
+    for (lens, kept, trials) in [
+        // The first two stages keep the end: the second tries it 11 times in 21, the third 8 times in 16.
+        (-0.21, -0.2, 41 + 11 + 9),
+        (0.24, 0.2, 41 + 11 + 9),
+        // The first keeps 0.19: the second tries 0.20 for 0.2008 and 0.2020, and the third does not reach it.
+        (0.22, 0.1813, 41 + 20 + 16),
+        (0.0, -0.0715, 41 + 21 + 16),
+    ] {
+        scene.k = lens;
+        let r = ws.rectify(&scene.take()).unwrap();
+        assert!((r.fit.k() - kept).abs() < 1e-9 && r.score > 0.0, "{lens}: {}", r.fit.k());
+        assert_eq!((r.trials, r.homographies, ws.trials()), (trials, trials, (trials, trials)), "{lens}");
+    }
 }
 
 /// The fit alone is rectify's, and the card under it is rectify's.

@@ -1,4 +1,4 @@
-//! What the generators share; `patches` serves the comparison too.
+//! What the generators share; `patches` and `stages` serve the comparison too.
 
 pub mod masks;
 pub mod patches;

@@ -7,6 +7,7 @@
 use comparison::{boards, captures, damage, direct, kinds, luma, Case};
 use scene::Random;
 use std::collections::BTreeMap;
+use std::fmt::Display;
 use std::fs;
 use std::path::PathBuf;
 use std::process::exit;
@@ -34,23 +35,31 @@ fn picture(c: &Case) -> Vec<u8> {
     out
 }
 
-fn one_capture(seed: u64, kind: kinds::Kind, table: &mut BTreeMap<&'static str, BTreeMap<u32, usize>>) {
+/// `n: how often`, for each n.
+fn listed<'a, N: Display + 'a>(numbers: impl Iterator<Item = (&'a N, &'a usize)>) -> String {
+    numbers.map(|(n, count)| format!("{n}: {count}")).collect::<Vec<_>>().join(", ")
+}
+
+fn one_capture(seed: u64, kind: kinds::Kind) -> captures::Agreed {
     let c = kind.1(&mut Random::new(seed));
-    match captures::check(&c) {
-        Ok(number) => *table.entry(kind.0).or_default().entry(number).or_default() += 1,
-        Err(e) => differ(format!("{} capture of seed {seed}: {e}", kind.0), "difference.ppm", &picture(&c)),
-    }
+    let differs = |e| differ(format!("{} capture of seed {seed}: {e}", kind.0), "difference.ppm", &picture(&c));
+    captures::check(&c).unwrap_or_else(differs)
 }
 
 fn run_captures(seed: u64, count: usize) {
-    let mut table = BTreeMap::new();
+    let mut table: BTreeMap<&str, BTreeMap<u32, usize>> = BTreeMap::new();
+    let mut trials: BTreeMap<u64, usize> = BTreeMap::new();
     for i in 0..count {
         let kind = match i {
             i if i % 1000 == 999 => kinds::LARGEST,
             i if i % 50 == 49 => kinds::BENCH,
             _ => kinds::KINDS[i % kinds::KINDS.len()],
         };
-        one_capture(scene::mix(seed.wrapping_add(i as u64)), kind, &mut table);
+        let agreed = one_capture(scene::mix(seed.wrapping_add(i as u64)), kind);
+        *table.entry(kind.0).or_default().entry(agreed.number).or_default() += 1;
+        if let Some(n) = agreed.trials {
+            *trials.entry(n).or_default() += 1;
+        }
         if i % 200 == 199 {
             eprintln!("compare: {} of {count} captures", i + 1);
         }
@@ -61,10 +70,10 @@ fn run_captures(seed: u64, count: usize) {
         let all: usize = numbers.values().sum();
         let accepted = numbers.get(&0).copied().unwrap_or(0);
         sum = [sum[0] + all, sum[1] + accepted];
-        let refused: Vec<String> = numbers.iter().filter(|(n, _)| **n != 0).map(|(n, c)| format!("{n}: {c}")).collect();
-        println!("| {kind} | {all} | {accepted} | {} |", refused.join(", "));
+        println!("| {kind} | {all} | {accepted} | {} |", listed(numbers.iter().filter(|(n, _)| **n != 0)));
     }
     println!("| all | {} | {} | |\n", sum[0], sum[1]);
+    println!("Accepted captures by trials tried: {}\n", listed(trials.iter()));
 }
 
 fn call_text(name: &str, words: &[u64]) -> String {
@@ -115,8 +124,7 @@ fn run_damage(seed: u64, count: usize) {
     for (function, numbers) in &table {
         let all: usize = numbers.values().sum();
         sum += all;
-        let each: Vec<String> = numbers.iter().map(|(n, c)| format!("{n}: {c}")).collect();
-        println!("| {function:?} | {all} | {} |", each.join(", "));
+        println!("| {function:?} | {all} | {} |", listed(numbers.iter()));
     }
     println!("| all | {sum} | |\n");
 }
@@ -128,7 +136,7 @@ fn replay(path: &str) -> Result<(), String> {
         let head = String::from_utf8_lossy(&content[..content.len().min(100)]).into_owned();
         let frame = head.lines().find_map(|l| l.strip_prefix("# frame ")).ok_or(format!("{path}: no comment `# frame W,H,CELL,MARGIN`"))?;
         let c = Case { w: p.w, h: p.h, frame: frame.parse()?, data: p.data };
-        return captures::check(&c).map(|number| println!("no difference: {number} on both sides"));
+        return captures::check(&c).map(|agreed| println!("no difference: {} on both sides", agreed.number));
     }
     let text = String::from_utf8(content).map_err(|_| format!("{path} is no file of a difference"))?;
     let mut parts = text.split_whitespace();

@@ -12,8 +12,8 @@
 // test_fit_geometry: stdin is records of 8 words (w, h, the frame, the capture's length in bytes, the length of the area of
 // means) with the capture behind them. stdout has the refusal's number; after 7 the numbers of patches and candidates;
 // after 0 those, then the four places in the patch list, matrix, lens, the kept trial's score and grade as for grid_score,
-// and the counts of trials and of homographies. Every NaN is written as one. The original has no refusal numbers: they are
-// those of docs/REQUIREMENTS.md, 2.
+// and the counts of trials and of homographies, by `vectors::stages`. Every NaN is written as one. The original has no refusal
+// numbers: they are those of docs/REQUIREMENTS.md, 2.
 use lpcorepub::frame::FrameSpec;
 use lpcorepub::geometry::{
     adaptive_black_mask, detect_fiducials, fiducial_candidates, fit_for, fit_geometry, grid_score, label_blobs, luma_plane, marker_layout,
@@ -222,12 +222,12 @@ fn grid_vectors() -> Vectors {
 
 // ---- test_fit_geometry
 
-// How many trials have a homography; the search by the original's parts ends where fit_geometry does.
-fn homographies(img: &RgbImage, f: &FrameSpec) -> u64 {
+// Trials and homographies; the search by the original's parts ends where fit_geometry does.
+fn counts(img: &RgbImage, f: &FrameSpec) -> [u64; 2] {
     let s = searched(img, f, &detect_fiducials(img, f).unwrap());
     let (_, fit) = s.kept.unwrap();
     assert!(fit.radial.k.to_bits() == fit_geometry(img, f).unwrap().radial.k.to_bits());
-    s.found.iter().sum()
+    [s.tried, s.homographies]
 }
 
 fn ask_fit_geometry(v: &mut Vectors, name: &str, img: &RgbImage, f: &FrameSpec, means: usize) {
@@ -276,8 +276,21 @@ fn ask_fit_geometry(v: &mut Vectors, name: &str, img: &RgbImage, f: &FrameSpec, 
     put_fit(v, &fit);
     v.float(score);
     put_grade(v, img, f, &fit, score);
-    v.word(78);
-    v.word(homographies(img, f));
+    for n in counts(img, f) {
+        v.word(n);
+    }
+}
+
+// Lens terms near 0.20, which a stage then tries more than once: it is kept; and the second stage alone goes past it.
+fn repeated_terms(v: &mut Vectors) {
+    let mut rng = Random(81);
+    let f = frame(208, 192, 8, 48);
+    let straight = [[4.0, 4.0], [108.0, 4.0], [108.0, 100.0], [4.0, 100.0]];
+    for (name, k, tried) in [("keeps 0.20", 0.22, 61), ("second stage past 0.20", 0.195, 77)] {
+        let img = photograph(&card(&f, &mut rng), 112, 104, straight, k);
+        assert!(counts(&img, &f) == [tried; 2] && (tried == 77 || fit_geometry(&img, &f).unwrap().radial.k == 0.2));
+        ask_fit_geometry(v, name, &img, &f, sampled(&f));
+    }
 }
 
 fn fit_vectors() -> Vectors {
@@ -315,6 +328,7 @@ fn fit_vectors() -> Vectors {
     long.data.push(0);
     ask_fit_geometry(&mut v, "long capture", &long, &fine, 0);
     ask_fit_geometry(&mut v, "cell 0", &long, &frame(192, 192, 0, 48), 0);
+    repeated_terms(&mut v);
     v
 }
 

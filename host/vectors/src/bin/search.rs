@@ -5,14 +5,17 @@
 // stdin is records of 16 words of 64 bits, lowest byte first: how many bytes stand behind the record (the capture from
 // then on; 0 keeps the one before), how many bytes of the capture are lent, w, h, the frame's width, height, cell and
 // margin, and the four points. stdout has the answers' words, one a line, in hexadecimal: 10 where a stage kept none,
-// else 0; the counts of trials and of homographies up to there; after 0 the kept trial's matrix and lens, the original's
-// float, and then 0 for a score, 1 for outside with the cell, 2 for too few cells.
+// else 0; the counts of trials and of homographies up to there, by `vectors::stages`; after 0 the kept trial's matrix and
+// lens, the original's float, and then 0 for a score, 1 for outside with the cell, 2 for too few cells.
 use lpcorepub::frame::FrameSpec;
 use lpcorepub::geometry::{detect_fiducials, fit_geometry};
 use lpcorepub::image::RgbImage;
 use vectors::pictures::{card, frame, frame_words, noise, outside, photograph, put_fit, sampled};
 use vectors::stages::{searched, Points, Searched};
 use vectors::{Random, Vectors};
+
+// The entries of each stage.
+const STAGES: [u64; 3] = [41, 21, 16];
 
 // The questions so far, and the capture of the last.
 struct Questions {
@@ -34,7 +37,7 @@ impl Questions {
         let s = searched(img, f, points);
         self.v.word(if s.kept.is_some() { 0 } else { 10 });
         self.v.word(s.tried);
-        self.v.word(s.found.iter().sum());
+        self.v.word(s.homographies);
         if let Some((score, fit)) = &s.kept {
             put_fit(&mut self.v, fit);
             self.v.float(*score);
@@ -48,7 +51,7 @@ impl Questions {
             }
         }
         let kept = s.kept.as_ref().map(|(score, fit)| (fit.radial.k, *score));
-        println!("{name}: tried {}, homographies {:?}, kept {kept:?}", s.tried, s.found);
+        println!("{name}: tried {}, homographies {} of {:?}, kept {kept:?}", s.tried, s.homographies, s.found);
         s
     }
 }
@@ -67,12 +70,11 @@ fn on_a_line(img: &RgbImage, rng: &mut Random) -> Points {
 // Points on such lines until one of each kind is found: without homography a whole first stage, a whole third stage,
 // some trials of every stage, the first trials of a stage whose kept trial is outside the picture.
 fn lines(q: &mut Questions, img: &RgbImage, f: &FrameSpec, rng: &mut Random) {
-    let all = [41, 21, 16];
     let mut left = [2, 3, 3, 2];
     while left != [0; 4] {
         let points = on_a_line(img, rng);
         let s = searched(img, f, &points);
-        let some = (0..3).all(|j| s.found.get(j).is_some_and(|n| 0 < *n && *n < all[j]));
+        let some = (0..3).all(|j| s.found.get(j).is_some_and(|n| 0 < *n && *n < STAGES[j]));
         let unscored = s.kept.as_ref().is_some_and(|(score, _)| *score == f64::NEG_INFINITY);
         let kind = match s.found.as_slice() {
             [0] => 0,
@@ -101,6 +103,36 @@ fn second_stage_without(q: &mut Questions, f: &FrameSpec) {
     let (x0, x1) = (0.1 * near, 0.9 * near);
     let s = q.ask("two places", &img, f, &[[x0, 0.0], [x1, 0.0], [x1, 5.0], [x0, 5.0]]);
     assert!(s.found.len() == 2 && 0 < s.found[0] && s.found[1] == 0);
+}
+
+// Points on such lines until one of each kind is found, whose stages try the term of an end more than once: each number of
+// trials that occurs below 78, the repeated term with and without a homography, refused by 10 too.
+fn repeated(q: &mut Questions, img: &RgbImage, f: &FrameSpec, rng: &mut Random) {
+    // whether the last stage kept a trial; trials; repeated entries without a homography
+    let accepted = [(true, 61, 0), (true, 67, 0), (true, 68, 0), (true, 72, 6), (true, 77, 0), (true, 77, 1)];
+    let refused = [(false, 68, 0), (false, 72, 6), (false, 77, 1)];
+    let mut left = [&accepted[..], &refused].concat();
+    while !left.is_empty() {
+        let points = on_a_line(img, rng);
+        let s = searched(img, f, &points);
+        let entries: u64 = STAGES[..s.found.len()].iter().sum();
+        let without = entries - s.tried - (s.found.iter().sum::<u64>() - s.homographies);
+        let scored = s.kept.as_ref().is_none_or(|(score, _)| *score > 0.0);
+        if let Some(i) = left.iter().position(|kind| scored && *kind == (s.kept.is_some(), s.tried, without)) {
+            left.remove(i);
+            q.ask("repeated terms", img, f, &points);
+        }
+    }
+}
+
+// A photographed card that keeps −0.20, with a score.
+fn kept_at_the_end(q: &mut Questions, rng: &mut Random) {
+    let f = frame(208, 192, 8, 48);
+    let corners = [[-2.0, -2.0], [122.0, -2.0], [122.0, 114.0], [-2.0, 114.0]];
+    let img = photograph(&card(&f, rng), 120, 112, corners, -0.2);
+    let s = q.ask("card at the end", &img, &f, &detect_fiducials(&img, &f).unwrap());
+    let (score, fit) = s.kept.unwrap();
+    assert!(fit.radial.k == -0.2 && score > 0.0 && (s.tried, s.homographies) == (61, 61));
 }
 
 // A photographed card: its own corners, where the loop above must end where fit_geometry does, and others.
@@ -140,5 +172,7 @@ fn main() {
     }
     lines(&mut q, &grey, &f, &mut rng);
     second_stage_without(&mut q, &f);
+    repeated(&mut q, &grey, &f, &mut rng);
+    kept_at_the_end(&mut q, &mut rng);
     q.v.write("test_search");
 }

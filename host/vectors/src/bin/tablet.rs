@@ -202,7 +202,7 @@ fn fitted(v: &mut Vectors, img: &RgbImage, f: &FrameSpec, l: &Look, rectified: b
     v.word(0);
     counted(v, l);
     corners(v, l, &points);
-    words(v, &[s.tried as usize, s.found.iter().sum::<u64>() as usize]);
+    words(v, &[s.tried, s.homographies].map(|n| n as usize));
     graded(v, img, f, &fit);
     if rectified {
         words(v, &[pixels_beyond(img, f, &fit)]);

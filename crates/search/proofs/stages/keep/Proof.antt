@@ -17,20 +17,20 @@ enum-known-outcome c = search needs
 replaces-requires : tie.Need-replaces-requires
 replaces-requires c κs = search needs
 
-add-t11 : tie.Need-add-t11
-add-t11 c = search needs
-
-returns : tie.Need-returns
-returns c = staged-takes _ _ (c .before .before .before .before .outcome .given .1) (sym (c .before .before .replaces .ensures) ∙ c .before .if1 .taken)
-
 add-t12 : tie.Need-add-t12
 add-t12 c = search needs
 
+returns : tie.Need-returns
+returns c = staged-takes _ _ _ (c .before .before .before .before .outcome .given .1) (sym (c .before .before .replaces .ensures) ∙ c .before .if1 .taken)
+
+add-t13 : tie.Need-add-t13
+add-t13 c = search needs
+
 returns-2 : tie.Need-returns-2
-returns-2 c = staged-none _ _ (c .enum-told .given .1)
+returns-2 c = staged-none _ _ _ (c .enum-told .given .1)
 
 returns-3 : tie.Need-returns-3
-returns-3 c = staged-stays _ _ (c .before .before .before .before .outcome .given .1) (sym (c .before .before .replaces .ensures) ∙ c .before .if1 .left)
+returns-3 c = staged-stays _ _ _ (c .before .before .before .before .outcome .given .1) (sym (c .before .before .replaces .ensures) ∙ c .before .if1 .left)
 
 pub keep-spec : {M : Type 1} → statement M
 keep-spec =
@@ -40,8 +40,8 @@ keep-spec =
     enum-told
     enum-known-outcome
     replaces-requires
-    add-t11
-    returns
     add-t12
+    returns
+    add-t13
     returns-2
     returns-3)
