@@ -78,17 +78,18 @@ divides (negsuc k) (negsuc l) = ⊎-elim
     (λ h. inr (2 ^ (k - l), ap (λ (n : ℕ). 2 ^ n) (let z : suc k ≡ suc l + (k - l) = omega arith in z) ∙ pow-add 2 (suc l) (k - l)))
     (le-or-lt k l)
 
--- p / E and q / D differ by a unit 1 / L at least, where they differ and L is a multiple of E and D
-unit-apart : (p q E D L r : ℕ) → 0 < E → D ≡ E * r → D ≤ L → q * E < p * D → E * D ≤ (p * D - q * E) * L
-unit-apart p q E D L r P e h l =
+-- where p / E is more than q / D, it is so by 1 / L at least: E divides D, which is at most L
+unit-apart : (p q E D L r : ℕ) → D ≡ E * r → D ≤ L → q * E < p * D → E * D ≤ (p * D - q * E) * L
+unit-apart p q E D L r e h l =
     let a : p * D ≡ p * r * E = ap (λ (z : ℕ). p * z) (e ∙ mul-comm E r) ∙ sym (mul-assoc p r E) in
     let b : q < p * r = lt-of-mul-lt-mul-right E (subst (λ (z : ℕ). q * E < z) a l) in
     let c : (q + 1) * E ≤ p * r * E = mul-le-mul-right E (omega arith) in
     let d : (q + 1) * E ≡ q * E + E = native.Mathlib.Nat.add-mul q 1 E ∙ ap (λ (z : ℕ). q * E + z) (one-mul E) in
     mul-le-mul (omega arith) h
 
-unit-apart′ : (p q E D L r : ℕ) → 0 < D → E ≡ D * r → E ≤ L → q * E < p * D → E * D ≤ (p * D - q * E) * L
-unit-apart′ p q E D L r P e h l =
+-- .. or D divides E, which is at most L
+unit-apart′ : (p q E D L r : ℕ) → E ≡ D * r → E ≤ L → q * E < p * D → E * D ≤ (p * D - q * E) * L
+unit-apart′ p q E D L r e h l =
     let a : q * E ≡ q * r * D = ap (λ (z : ℕ). q * z) (e ∙ mul-comm D r) ∙ sym (mul-assoc q r D) in
     let b : q * r < p = lt-of-mul-lt-mul-right D (subst (λ (z : ℕ). z < p * D) a l) in
     let c : (q * r + 1) * D ≤ p * D = mul-le-mul-right D (omega arith) in
@@ -170,8 +171,8 @@ sum-not-minus-zero (fin true m e) n d a b = unfold sum in go (ltb (m * up e * do
 
     apart : q * down e < p * down d → down e * down d ≤ (p * down d - q * down e) * 2 ^ low binary64
     apart l = ⊎-elim
-        (λ r. unit-apart p q (down e) (down d) (2 ^ low binary64) (r .0) (down-pos e) (r .1) (down-most false n d b) l)
-        (λ r. unit-apart′ p q (down e) (down d) (2 ^ low binary64) (r .0) (down-pos d) (r .1) (down-most true m e a) l)
+        (λ r. unit-apart p q (down e) (down d) (2 ^ low binary64) (r .0) (r .1) (down-most false n d b) l)
+        (λ r. unit-apart′ p q (down e) (down d) (2 ^ low binary64) (r .0) (r .1) (down-most true m e a) l)
         (divides e d)
 
     go : (x y : Bool) → ltb (q * down e) (p * down d) ≡ y

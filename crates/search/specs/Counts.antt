@@ -41,7 +41,7 @@ pub record Different (term : ℕ → Float) (chosen : ℕ → Bool) (n count : �
   pub apart : (i l : ℕ) → i < l → l < count → term (representative i) ≡ term (representative l) → ⊥
   pub every : (e : ℕ) → e < n → T (chosen e) → (i : ℕ) × (i < count) × (term (representative i) ≡ term e)
 
--- no second number is one
+-- [26.2] "the number": there is one only
 abbrev pub OneNumber : Type 0
 OneNumber =
     (term : ℕ → Float) (chosen : ℕ → Bool) (n count count′ : ℕ)
@@ -59,6 +59,7 @@ pub record Counts (img : Image) (f : FrameSpec) (q : Quad) (tried homographies :
   pub tried-is : tried ≡ different 0 (f64 0) + different 1 (secondCenter img f q) + different 2 (lastCenter img f q)
   pub mapped-is : homographies ≡ mapped img f q 0 (f64 0) + mapped img f q 1 (secondCenter img f q)
       + mapped img f q 2 (lastCenter img f q)
+  -- .. and what these six numbers mean
   pub first : StageCounts img f q 0 (f64 0)
   pub second : StageCounts img f q 1 (secondCenter img f q)
   pub third : StageCounts img f q 2 (lastCenter img f q)
