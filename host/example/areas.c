@@ -107,6 +107,47 @@ static void boards(struct tablet_areas *a)
     outlines(a, MOST);
 }
 
+/* How many pixels of a mask before pixel i are dark: on the checkerboard the place of the patch that starts there. */
+static uint64_t dark_before(const uint8_t *mask, size_t i)
+{
+    uint64_t dark = 0;
+    for (size_t j = 0; j < i; j++) dark += mask[j] != 0;
+    return dark;
+}
+
+/* Rectangles over the checkerboard, whose patches are its dark pixels; the last lies outside the picture. */
+static void windows(const struct tablet_areas *a, uint64_t patches)
+{
+    enum { K = 3, LEN = K * TABLET_WINDOW_LEN };
+    uint64_t at[K * TABLET_RECTANGLE_LEN] = {50, 70, 60, 75, 7, 4, 7, 4, 4095, 0, 4095, 4095}, answers[LEN + 1], dark = 0;
+    for (size_t y = 70; y <= 75; y++)
+        for (size_t x = 50; x <= 60; x++) dark += a->mask[y * SIDE + x] != 0;
+    /* The first one's centre lies between pixels 55, 72, which is light, and 55, 73. Pixel 7, 4 is light, and the one above it the
+     * first of four that are as near. The picture's last pixel is dark, and nearest to a centre that lies right of it and below. */
+    const uint64_t wanted[LEN + 1] = {dark, dark_before(a->mask, 70 * SIDE + 50), dark_before(a->mask, 73 * SIDE + 55),
+                                      0, TABLET_NO_PATCH, dark_before(a->mask, 3 * SIDE + 7),
+                                      0, TABLET_NO_PATCH, patches - 1, 9};
+    for (size_t i = 0; i <= LEN; i++) answers[i] = 9;
+    assert(tablet_patch_windows(a->patches, a->patches_len, patches, at, sizeof at / sizeof *at, K, answers, LEN - 1) == 3);
+    at[2] = 4096;
+    assert(tablet_patch_windows(a->patches, a->patches_len, patches, at, sizeof at / sizeof *at, K, answers, LEN) == 17);
+    for (size_t i = 0; i <= LEN; i++) assert(answers[i] == 9);
+    at[2] = 60;
+    assert(tablet_patch_windows(a->patches, a->patches_len, patches, at, sizeof at / sizeof *at, K, answers, LEN + 1) == 0);
+    assert(memcmp(answers, wanted, sizeof answers) == 0);
+    assert(tablet_patch_windows(a->patches, a->patches_len, 0, at, sizeof at / sizeof *at, 1, answers, TABLET_WINDOW_LEN) == 0);
+    assert(answers[0] == 0 && answers[1] == TABLET_NO_PATCH && answers[2] == TABLET_NO_PATCH && answers[3] == wanted[3]);
+}
+
+/* The whole picture touches every patch of a look. */
+static void whole(const struct tablet_areas *a)
+{
+    const uint64_t at[TABLET_RECTANGLE_LEN] = {0, 0, SIDE - 1, SIDE - 1};
+    uint64_t answers[TABLET_WINDOW_LEN], patches = a->counts[TABLET_PATCHES];
+    assert(tablet_patch_windows(a->patches, a->patches_len, (size_t)patches, at, TABLET_RECTANGLE_LEN, 1, answers, TABLET_WINDOW_LEN) == 0);
+    assert(answers[0] == patches && answers[1] == 0 && answers[2] < patches);
+}
+
 int main(void)
 {
     uint64_t lengths[TABLET_LENGTHS_LEN];
@@ -126,7 +167,9 @@ int main(void)
     paged(&a);
     lumas(&a);
     outlines(&a, a.counts[TABLET_PATCHES]);
+    whole(&a);
     boards(&a);
+    windows(&a, SIDE * SIDE / 2);
     a.counts[TABLET_BEYOND] = 9;
     assert(tablet_areas_fit(&a, SIDE, SIDE, FRAME) == 0);
     assert(tablet_areas_rectify(&b, SIDE, SIDE, FRAME) == 0);

@@ -23,6 +23,8 @@
  *       hands in the book)
  *   16  tablet_rectify and tablet_warp_record only: the kept fit has no score, since fewer than 16 cells are sampled or one lies
  *       outside the picture; a record's grade is not TABLET_SCORED (the photographer)
+ *   17  tablet_patch_windows only: above 64 rectangles, or a rectangle or a patch box with an end before its start or above 4,095
+ *       (whoever hands in the rectangles or the list)
  *
  * A slice is a pointer and then its number of entries (not bytes). A pointer must not be NULL, with 0 entries too, and must
  * be aligned for its type. No two slices of a call may overlap, unless both are const. Nothing is kept after a call.
@@ -45,7 +47,7 @@
  *    candidates  four numbers a candidate, in patch order: centre x, centre y, score, size
  *    blob_index  for each candidate its patch's place in patches, from 0
  * and waiting and means hold nothing of use: they are free. Records past the last are as they were. After a refusal by 1 to 6,
- * by 11 to 15 or by tablet_warp_record's 16 no memory is changed, and after any refusal the canonical image is as it was.
+ * by 11 to 15, by tablet_warp_record's 16 or by 17 no memory is changed, and after any refusal the canonical image is as it was.
  *
  * Acceptance says that the answer is the one that the rules give for this capture. It does not say that the four rings are the
  * card's, nor which way up the card lies: README.md, "When not to trust a card". host/flatten/src/phase.rs has a sign of both
@@ -92,8 +94,14 @@ enum {
     TABLET_BOOK_HEADER_LEN = 16, /* bytes of a book before its first record */
     TABLET_BOOK_RECORD_LEN = 120, /* bytes of one record of a book */
     TABLET_BOOK_HEAD_LEN = 3, /* one record of heads; of its numbers TABLET_FIT_LEN */
-    TABLET_BOOK_MOST_RECORDS = 35791393 /* the length of a longer book does not fit its header */
+    TABLET_BOOK_MOST_RECORDS = 35791393, /* the length of a longer book does not fit its header */
+    TABLET_RECTANGLE_LEN = 4, /* one rectangle of windows */
+    TABLET_WINDOW_LEN = 3, /* answers of tablet_patch_windows, for each rectangle */
+    TABLET_MOST_WINDOWS = 64 /* rectangles that one call takes */
 };
+
+/* Stands for the place of a patch where there is none. A macro: no constant of an enum holds it. */
+#define TABLET_NO_PATCH UINT64_MAX
 
 /* Entries of the counts. tablet_fiducial_candidates fills the first three, tablet_detect_fiducials the first seven,
  * tablet_fit_geometry the first eleven and tablet_rectify all twelve. They are filled on acceptance and on a refusal by 7 to 10 or
@@ -272,6 +280,20 @@ uint32_t tablet_rms_error(const double *a, size_t a_len, const double *b, size_t
  * candidates: TABLET_CANDIDATE_LEN for each, as a look leaves them; page: TABLET_PAGE_LINE_LEN for each, and the rest of a longer
  * one stays as it was. */
 uint32_t tablet_candidate_page(const double *candidates, size_t candidates_len, size_t count, uint8_t *page, size_t page_len);
+
+/* Which patches each of k rectangles touches, and which lies nearest, over the first n patches of a list. windows:
+ * TABLET_RECTANGLE_LEN for each rectangle, x0, y0, x1, y1 in pixels, both ends counted; they may overlap, be the same and lie
+ * outside the picture. patches: TABLET_PATCH_LEN for each patch, as a look leaves them; only x0, y0, x1, y1 are read. answers:
+ * TABLET_WINDOW_LEN for each rectangle,
+ *    how many patches have a box that shares a pixel with it
+ *    the place in the list, from 0, of the first of them, or TABLET_NO_PATCH
+ *    the place of the patch whose box has its centre nearest the rectangle's, touching or not, the earlier of equals: the least
+ *    dx * dx + dy * dy, where dx is x0 + x1 of the box less x0 + x1 of the rectangle, and dy alike; TABLET_NO_PATCH where n is 0
+ * and the rest of longer answers stays as it was. Each rectangle has the answers that it has alone. Records past n and numbers past
+ * the k rectangles are not looked at. 3 (answers, windows, patches) and then 17, which is tried on the boxes where k is 0 too. */
+uint32_t tablet_patch_windows(const uint64_t *patches, size_t patches_len, size_t n,
+                              const uint64_t *windows, size_t windows_len, size_t k,
+                              uint64_t *answers, size_t answers_len);
 
 /* A book keeps fits as bytes, all numbers little-endian. Its header is four u32: the number of records, 16, 120, and the number
  * of all its bytes, 16 + 120 times the records. A record is four u32, panel, camera, grade (TABLET_SCORED, TABLET_OUTSIDE or

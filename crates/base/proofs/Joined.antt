@@ -1,5 +1,5 @@
 -- Laws of `joined`, for lists of one length m; and such lists written one after another over the start of a list. Assumes nothing.
-use mathlib.Core.Path.{_≡_, refl, sym, ap, _∙_}
+use mathlib.Core.Path.{_≡_, refl, sym, ap, ap₂, _∙_}
 use mathlib.Core.Logic.{⊎-elim}
 use mathlib.Core.List.{List, _++_, append-assoc}
 use Prim.Native.Nat.{ℕ, zero, suc, _+_, _-_, _*_, _≤_, _<_}
@@ -15,6 +15,12 @@ use Rattle.base.proofs.Over.{over, over-part}
 
 joined-more : {A : Type 0} (f : ℕ → List A) (n : ℕ) → joined f (n + 1) ≡ joined f n ++ f n
 joined-more f n = ap (joined f) (add-one n) ∙ unfold joined in refl
+
+-- lists that are equal one by one
+pub joined-cong : {A : Type 0} (f g : ℕ → List A) (n : ℕ) → ((i : ℕ) → i < n → f i ≡ g i) → joined f n ≡ joined g n
+unfolding joined
+joined-cong f g zero h = refl
+joined-cong f g (suc n) h = ap₂ _++_ (joined-cong f g n (λ i l. h i (omega arith))) (h n (omega arith))
 
 module _ {A : Type 0} (f : ℕ → List A) (m : ℕ) (each : (i : ℕ) → length (f i) ≡ m) where
   pub length-joined : (n : ℕ) → length (joined f n) ≡ m * n

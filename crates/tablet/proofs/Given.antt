@@ -29,6 +29,7 @@ use Rattle.fiducials.specs.declared.Places.{Places}
 use Rattle.geometry.specs.Contracts.{Warping, RecordWarping}
 use Rattle.page.specs.Contracts.{Paging}
 use Rattle.checkerboard.specs.Contracts.{Drawing}
+use Rattle.windows.specs.Contracts.{Windowing}
 use Rattle.book.specs.Layout.{bookLength, countIn}
 use Rattle.book.specs.Contracts.{Reading, Writing}
 use Rattle.book.specs.declared.FitRecord.{FitRecord}
@@ -53,6 +54,11 @@ paging c count page page′ v r e s = record { given = verdict-is v _ r (s .give
 
 pub drawing : (w h : ℕ) (mask mask′ : List ℕ) (v : Verdict) (r : ℕ) → r ≡ numberOf v → Drawing w h mask mask′ v → Drawing w h mask mask′ (verdictOf r)
 drawing w h mask mask′ v r e s = record { given = verdict-is v _ r (s .given) e; accepted = s .accepted; refused = s .refused }
+
+pub windowing : (patches : List ℕ) (n : ℕ) (windows : List ℕ) (k : ℕ) (answers answers′ : List ℕ) (v : Verdict) (r : ℕ) → r ≡ numberOf v
+    → Windowing patches n windows k answers answers′ v → Windowing patches n windows k answers answers′ (verdictOf r)
+windowing patches n windows k answers answers′ v r e s =
+    record { given = verdict-is v _ r (s .given) e; accepted = s .accepted; means = s .means; refused = s .refused }
 
 -- .. where that answer is a number
 given-number : (a : Number) (n v r : ℕ) → a ≡ numberAs n v → r ≡ numberRefusal a → numberAs r v ≡ numberAs n v

@@ -5,8 +5,8 @@
 // `tablet_luma`, which refuses nothing and gives the luma. The number is the lowest that applies,
 // but for `tablet_read_book`, which gives 3 after 14 and 15. Numbers are handed in and answered in
 // lent slices, which may be longer than they need be; a shorter one is refusal 3. What lies past
-// the numbers of a slice is never written. A refusal by 1 to 6 or 12 to 15 writes nothing at all,
-// and one by 16 no canonical image and no fit.
+// the numbers of a slice is never written. A refusal by 1 to 6, 12 to 15 or 17 writes nothing at
+// all, and one by 16 no canonical image and no fit.
 mod answers;
 mod boards;
 mod books;
@@ -17,6 +17,7 @@ mod looks;
 mod matrices;
 mod pages;
 mod pictures;
+mod rectangles;
 mod slices;
 mod whole;
 
@@ -47,5 +48,6 @@ pub use pictures::tablet_label_blobs;
 pub use pictures::tablet_luma;
 pub use pictures::tablet_warp_record;
 pub use pictures::tablet_warp_with;
+pub use rectangles::tablet_patch_windows;
 pub use whole::tablet_fit_geometry;
 pub use whole::tablet_rectify;

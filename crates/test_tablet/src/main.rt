@@ -54,6 +54,9 @@ fn main() {
     checkerboard(4, 9);
     checkerboard(4, 4097);
     checkerboard(4, 11);
+    patch_windows(3, 2, 29);
+    patch_windows(3, 3, 29);
+    patch_windows(3, 2, 4096);
 }
 
 // ---- fits and readings
@@ -274,4 +277,41 @@ fn checkerboard(w: usize, h: usize) {
     let mut mask = [9u8; 40];
     word(tablet::tablet_checkerboard(w, h, &mut mask) as u64);
     all_bytes(&mask);
+}
+
+// ---- patch lists
+
+// The last row of the second rectangle is handed in. The areas are those of three patches, of two
+// rectangles and a number more, and of two answers and a number more.
+fn patch_windows(n: usize, k: usize, last: u64) {
+    let patches = [
+        11u64,
+        12,
+        13,
+        1,
+        2,
+        3,
+        4,
+        14,
+        21,
+        22,
+        23,
+        10,
+        20,
+        18,
+        25,
+        24,
+        31,
+        32,
+        33,
+        40,
+        5,
+        41,
+        6,
+        34,
+    ];
+    let windows = [3u64, 4, 13, 23, 19, 26, 27, last, 5];
+    let mut answers = [9u64; 7];
+    word(tablet::tablet_patch_windows(&patches, n, &windows, k, &mut answers) as u64);
+    words(&answers, 0, 7);
 }

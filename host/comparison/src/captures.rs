@@ -2,7 +2,7 @@
 
 use crate::direct::graded;
 use crate::original::{self as o, Answer, Flat, Look};
-use crate::{bits, pages, Case, Memory};
+use crate::{bits, pages, windows, Case, Memory};
 use flatten::ffi;
 use std::fmt::Debug;
 use vectors::stages::possible_counts;
@@ -117,7 +117,7 @@ pub fn check(c: &Case) -> Result<Agreed, String> {
 }
 
 /// fiducial_candidates, detect_fiducials, fit_geometry, label_blobs, grid_score, warp_with and warp_record, each in memory of its
-/// own, so that none is compared by what another has left.
+/// own, so that none is compared by what another has left; and patch_windows over the list of label_blobs.
 fn others(c: &Case, a: &Answer) -> Result<(), String> {
     listing(c, a).map_err(|e| format!("fiducial_candidates: {e}"))?;
     detecting(c, a).map_err(|e| format!("detect_fiducials: {e}"))?;
@@ -179,7 +179,8 @@ fn labelling(c: &Case, look: &Look) -> Result<(), String> {
     let number = ffi::label_blobs(&mask, c.w, c.h, &mut m.seen, &mut m.waiting, &mut m.patches, &mut counts);
     eq("refusal", number, 0)?;
     listed(&m.patches, counts[0], counts[1], look)?;
-    each("marks", &m.seen, &look.mask, |b| b)
+    each("marks", &m.seen, &look.mask, |b| b)?;
+    windows::over(&m.patches, &look.patches, c.w, c.h).map_err(|e| format!("patch_windows over its list: {e}"))
 }
 
 /// grid_score, warp_with and warp_record of the original's fit.

@@ -1,9 +1,9 @@
-//! Calls with frames, captures, books and areas of any numbers and lengths. The refusal must be the lowest number (that of a book's
-//! reader the first of 14, 15, 3), what must stay untouched is compared byte by byte, and two runs must agree: the second has other
-//! garbage in areas of the smallest lengths.
+//! Calls with frames, captures, rectangles, books and areas of any numbers and lengths. The refusal must be the lowest number (that of
+//! a book's reader the first of 14, 15, 3), what must stay untouched is compared byte by byte, and two runs must agree: the second has
+//! other garbage in areas of the smallest lengths.
 
 use crate::original;
-use crate::{boards, books, kinds, pages, sizes, Case, Memory};
+use crate::{boards, books, kinds, pages, sizes, windows, Case, Memory};
 use flatten::{ffi, Frame};
 use scene::Random;
 
@@ -25,6 +25,7 @@ pub enum Function {
     Lengths,
     Bilinear,
     CandidatePage,
+    PatchWindows,
     ReadBook,
     WriteBook,
 }
@@ -49,6 +50,7 @@ const FUNCTIONS: &[Function] = &[
     Function::Lengths,
     Function::Bilinear,
     Function::CandidatePage,
+    Function::PatchWindows,
     Function::ReadBook,
     Function::WriteBook,
 ];
@@ -58,7 +60,7 @@ const PLACE: [f64; 2] = [1.25, 0.75];
 
 /// Those that are handed neither a frame nor a picture.
 fn apart(f: Function) -> bool {
-    matches!(f, Function::CandidatePage | Function::ReadBook | Function::WriteBook)
+    matches!(f, Function::CandidatePage | Function::PatchWindows | Function::ReadBook | Function::WriteBook)
 }
 
 /// All that a call is handed.
@@ -77,6 +79,7 @@ struct Call {
     /// How many candidates, and the page for them.
     count: usize,
     page: Vec<u8>,
+    windows: windows::Call,
     book: books::Call,
 }
 
@@ -199,6 +202,7 @@ fn lowest(c: &Call, seen: Numbers) -> u32 {
         Function::Lengths => vec![(3, counts < 11)],
         Function::Bilinear => vec![(2, capture_bad), (3, c.colour.len() < 4)],
         Function::CandidatePage => vec![(pages::text(&c.given, c.count, c.page.len()).err().unwrap_or(0), true)],
+        Function::PatchWindows => vec![(c.windows.expected().0, true)],
         Function::ReadBook | Function::WriteBook => vec![(c.book.expected().0, true)],
     };
     tests.iter().filter(|(_, holds)| *holds).map(|(n, _)| *n).min().unwrap_or(0)
@@ -227,6 +231,7 @@ fn run(c: &mut Call) -> u32 {
         Function::Lengths => ffi::lengths(w, h, f, &mut c.counts),
         Function::Bilinear => ffi::bilinear(capture, w, h, PLACE[0], PLACE[1], &mut c.colour),
         Function::CandidatePage => ffi::candidate_page(&c.given, c.count, &mut c.page),
+        Function::PatchWindows => c.windows.run(),
         Function::ReadBook | Function::WriteBook => c.book.run(),
     }
 }
@@ -281,6 +286,28 @@ fn page_call(r: &mut Random, wrong: f64) -> (Vec<f64>, usize, usize) {
     list.resize(list_len, f64::NAN);
     let far = [usize::MAX, 1 << 62, (1 << 62) + 1, 1 << 63, usize::MAX / 37 + 1];
     (list, if r.chance(0.2 * wrong) { r.one_of(&far) } else { count }, page_len)
+}
+
+/// Few patches, and rectangles up to one too many, often with an end that is spoiled. Now and then a count is one off, or passes 2^64
+/// times 8, 4 or 3, and what is left is little or nothing.
+fn windows_call(r: &mut Random, wrong: f64) -> windows::Call {
+    let (n, k) = (r.one_of(&[0, 1, 2, 3, 5, 30]), r.one_of(&[0, 0, 1, 2, 3, 9, 64, 65]));
+    let mut c = windows::drawn(r, n, k);
+    if r.chance(0.4) {
+        c.spoil(r);
+    }
+    // What lies past the counts is not looked at.
+    c.patches.resize(length(r, 8 * n, wrong), u64::MAX);
+    c.windows.resize(length(r, 4 * k, wrong), u64::MAX);
+    c.answers.resize(length(r, 3 * k, wrong), 0);
+    let far = [1 << 61, (1 << 61) + 1, 1 << 62, (1 << 62) + 1, 1 << 63, usize::MAX / 3 + 1, usize::MAX];
+    let mut off = |count: usize| match r.chance(2.0 * wrong) {
+        true if r.chance(0.5) => r.one_of(&far),
+        true => r.one_of(&[count + 1, count.saturating_sub(1)]),
+        false => count,
+    };
+    (c.n, c.k) = (off(n), off(k));
+    c
 }
 
 /// Few records and their book. Now and then the count to be written is one off, or passes 2^64 times 3, 13 or 120.
@@ -388,6 +415,7 @@ fn call(r: &mut Random, pool: &Pool) -> (Call, Numbers) {
         grade: if r.chance(2.0 * wrong) { r.one_of(&[1, 2, 3, u32::MAX]) } else { 0 },
         count,
         page: vec![0; page_len],
+        windows: if function == Function::PatchWindows { windows_call(r, wrong) } else { windows::Call::default() },
         book: if books { book_call(r, wrong, function) } else { books::Call::default() },
         case,
     };
@@ -418,6 +446,7 @@ fn shorten(c: &mut Call) {
         c.given.truncate(4 * c.count);
         c.page.truncate(37 * c.count);
     }
+    c.windows.shorten();
     c.book.shorten();
 }
 
@@ -436,6 +465,7 @@ fn garbage(c: &mut Call, r: &mut Random) {
     c.numbers.iter_mut().for_each(|v| *v = f64::from_bits(r.bits()));
     c.colour.iter_mut().for_each(|v| *v = r.bits() as u8);
     c.page.iter_mut().for_each(|v| *v = r.bits() as u8);
+    c.windows.garbage(r);
     c.book.garbage(r);
     if c.function != Function::LabelBlobs {
         c.memory.mask.iter_mut().for_each(|v| *v = r.bits() as u8);
@@ -445,7 +475,7 @@ fn garbage(c: &mut Call, r: &mut Random) {
 /// What a function may write: each area's written entries, from 0. All else stays.
 fn written(c: &Call, number: u32) -> (Written, [usize; 3], usize) {
     let nothing = Written { luma: 0, integral: 0, mask: 0, marks: 0, patches: 0, candidates: 0, means: 0, page: 0 };
-    if matches!(number, 1..=6 | 12..=15) {
+    if matches!(number, 1..=6 | 12..=15 | 17) {
         return (nothing, [0; 3], 0);
     }
     // A function that is not handed the frame, or the sides, can accept where they are outside their limits.
@@ -478,8 +508,8 @@ fn written(c: &Call, number: u32) -> (Written, [usize; 3], usize) {
         Function::Bilinear => (nothing, [0, 0, 4], 0),
         Function::StampFiducials => (nothing, [0; 3], 0),
         Function::CandidatePage => (Written { page: 37 * c.count, ..nothing }, [0; 3], 0),
-        // A book and its numbers are compared whole, with what they must be.
-        Function::ReadBook | Function::WriteBook => (nothing, [0; 3], 0),
+        // Answers for rectangles, and a book and its numbers, are compared whole, with what they must be.
+        Function::PatchWindows | Function::ReadBook | Function::WriteBook => (nothing, [0; 3], 0),
     }
 }
 
@@ -507,6 +537,7 @@ fn untouched(before: &Call, after: &Call, number: u32) -> Result<(), String> {
     kept("numbers", &before.numbers, &after.numbers, numbers, f64::to_bits)?;
     kept("colour", &before.colour, &after.colour, colour, |v| v)?;
     kept("page", &before.page, &after.page, w.page, |v| v)?;
+    after.windows.same(&before.windows.expected().1)?;
     after.book.same(&before.book.expected().1)?;
     let stamped = before.function == Function::StampFiducials && number == 0;
     kept("capture", &before.case.data, &after.case.data, if stamped { before.case.data.len() } else { 0 }, |v| v)

@@ -1,9 +1,9 @@
-//! Functions of numbers, compared one call at a time; the checkerboard, the candidate page and the book of fits with definitions of
-//! their own (`boards`, `pages`, `books`). A call is its name and 64-bit words, so that a file can hold it; `luma` has no words, and is
-//! compared on every three bytes at once.
+//! Functions of numbers, compared one call at a time; the checkerboard, the candidate page, windows over a patch list and the book of
+//! fits with definitions of their own (`boards`, `pages`, `windows`, `books`). A call is its name and 64-bit words, so that a file can
+//! hold it; `luma` has no words, and is compared on every three bytes at once.
 
 use crate::original as o;
-use crate::{bits, boards, books, luma, pages, sampled};
+use crate::{bits, boards, books, luma, pages, sampled, windows};
 use flatten::{ffi, Frame};
 use lpcore::geometry as g;
 use lpcore::image::RgbImage;
@@ -32,6 +32,7 @@ pub const FUNCTIONS: &[Function] = &[
     ("stamp_fiducials", 1, stamp_call),
     ("checkerboard", 1, boards::call),
     ("candidate_page", 100, pages::call),
+    ("patch_windows", 100, windows::call),
     ("read_book", 100, books::call),
     ("write_book", 100, books::call),
 ];
@@ -323,6 +324,7 @@ pub fn check(name: &str, w: &[u64]) -> Result<(), String> {
         }
         "checkerboard" => boards::check_words(w),
         "candidate_page" => pages::check_words(w),
+        "patch_windows" => windows::check_words(w),
         "read_book" => books::check_words(w, true),
         "write_book" => books::check_words(w, false),
         _ => Err("there is no such function".into()),

@@ -9,6 +9,7 @@ pub mod kinds;
 pub mod luma;
 pub mod original;
 pub mod pages;
+pub mod windows;
 
 use flatten::{ffi, Frame};
 use scene::Random;

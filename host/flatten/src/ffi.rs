@@ -52,6 +52,18 @@ pub const BOOK_RECORD_LEN: usize = 120;
 /// A record's panel, camera and grade.
 pub const BOOK_HEAD_LEN: usize = 3;
 
+/// A rectangle of windows: x0, y0, x1, y1, both ends counted.
+pub const RECTANGLE_LEN: usize = 4;
+
+/// What is answered for a rectangle: how many patches touch it, the first of them, the nearest patch.
+pub const WINDOW_LEN: usize = 3;
+
+/// Rectangles that one call takes.
+pub const MOST_WINDOWS: usize = 64;
+
+/// The place of a patch that there is not.
+pub const NO_PATCH: u64 = u64::MAX;
+
 /// The work areas of a look at the picture, in the order of the C functions.
 pub struct Areas<'a> {
     pub luma: &'a mut [f32],
@@ -162,6 +174,10 @@ mod c {
         pub fn tablet_checkerboard(w: usize, h: usize, mask: *mut u8, mask_len: usize) -> u32;
         pub fn tablet_candidate_page(
             candidates: *const f64, candidates_len: usize, count: usize, page: *mut u8, page_len: usize,
+        ) -> u32;
+        pub fn tablet_patch_windows(
+            patches: *const u64, patches_len: usize, n: usize, windows: *const u64, windows_len: usize, k: usize,
+            answers: *mut u64, answers_len: usize,
         ) -> u32;
         pub fn tablet_read_book(
             book: *const u8, book_len: usize, heads: *mut u32, heads_len: usize, numbers: *mut u64, numbers_len: usize,
@@ -404,6 +420,16 @@ pub fn checkerboard(w: usize, h: usize, mask: &mut [u8]) -> u32 {
 pub fn candidate_page(candidates: &[f64], count: usize, page: &mut [u8]) -> u32 {
     // SAFETY: both slices go with their own lengths, and the page is borrowed apart from the candidates.
     unsafe { c::tablet_candidate_page(candidates.as_ptr(), candidates.len(), count, page.as_mut_ptr(), page.len()) }
+}
+
+#[rustfmt::skip]
+pub fn patch_windows(patches: &[u64], n: usize, windows: &[u64], k: usize, answers: &mut [u64]) -> u32 {
+    // SAFETY: each slice goes with its own length; the answers are borrowed apart from patches and windows, which are only read.
+    unsafe {
+        c::tablet_patch_windows(
+            patches.as_ptr(), patches.len(), n, windows.as_ptr(), windows.len(), k, answers.as_mut_ptr(), answers.len(),
+        )
+    }
 }
 
 #[rustfmt::skip]

@@ -24,9 +24,11 @@ pub mod p6;
 pub mod phase;
 mod refusal;
 pub mod report;
+mod windows;
 mod workspace;
 
 pub use refusal::{Refusal, Responsible};
+pub use windows::{Rectangle, Window};
 pub use workspace::{Candidate, Fit, Fitted, Grade, Patch, Rectified, Workspace};
 
 /// The description of a card: its sides, the side of a cell and the margin, in canonical pixels.

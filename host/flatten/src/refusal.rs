@@ -15,6 +15,8 @@ pub enum Responsible {
     Points,
     /// Whoever hands in the book.
     Book,
+    /// Whoever hands in rectangles and a patch list.
+    Rectangles,
 }
 
 /// The library's refusal of a call, by its number.
@@ -47,6 +49,7 @@ impl Refusal {
             2..=4 | 12 => Responsible::Host,
             6..=9 | 16 => Responsible::Photographer,
             14 | 15 => Responsible::Book,
+            17 => Responsible::Rectangles,
             _ => Responsible::Points,
         }
     }
@@ -70,6 +73,7 @@ impl Refusal {
             14 => "the book's header, its length, a grade or a zero field is wrong, or it would be longer than 4294967295 bytes",
             15 => "the book's keys, panel and then camera, do not rise",
             16 => "the cells gave no score for the lens: fewer than 16 are sampled, or one lies outside the picture",
+            17 => "there are more than 64 rectangles, or a rectangle or a patch box has an end before its start or above 4095",
             _ => "the library gives a number that this wrapper does not know",
         }
     }
@@ -105,6 +109,9 @@ impl Refusal {
                 "photograph again with the whole card in the picture; a card with fewer than 16 sampled cells cannot be laid flat \
                   from a photograph alone"
             }
+            17 => {
+                "hand in at most 64 rectangles at once, none with an end before its start or above 4095, and a patch list as it was found"
+            }
             _ => "bring library and wrapper to the same version",
         }
     }
@@ -130,16 +137,22 @@ mod tests {
 
     #[test]
     fn each_number_has_words_and_somebody() {
-        let all: Vec<Refusal> = (1..=16).map(Refusal).collect();
+        let all: Vec<Refusal> = (1..=17).map(Refusal).collect();
         use Responsible::*;
-        let menders: [(_, &[u32]); 5] =
-            [(Frame, &[1, 5]), (Host, &[2, 3, 4, 12]), (Photographer, &[6, 7, 8, 9, 16]), (Points, &[10, 11, 13]), (Book, &[14, 15])];
+        let menders: [(_, &[u32]); 6] = [
+            (Frame, &[1, 5]),
+            (Host, &[2, 3, 4, 12]),
+            (Photographer, &[6, 7, 8, 9, 16]),
+            (Points, &[10, 11, 13]),
+            (Book, &[14, 15]),
+            (Rectangles, &[17]),
+        ];
         for (who, numbers) in menders {
             let theirs: Vec<u32> = all.iter().filter(|r| r.responsible() == who).map(|r| r.number()).collect();
             assert_eq!(theirs, numbers, "{who:?}");
         }
         for words in [Refusal::why, Refusal::remedy] {
-            let unknown = words(Refusal(17));
+            let unknown = words(Refusal(18));
             for (i, &r) in all.iter().enumerate() {
                 assert!(words(r) != unknown && all[..i].iter().all(|&other| words(other) != words(r)), "{r}");
             }

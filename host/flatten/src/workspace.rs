@@ -1,8 +1,8 @@
 //! Work areas that are made once and lent to each call.
 
 use crate::book::Record;
-use crate::{ffi, phase};
-use crate::{Frame, Refusal};
+use crate::{ffi, phase, windows};
+use crate::{Frame, Rectangle, Refusal, Window};
 
 /// A canonical-to-image map: a homography, then a lens.
 #[derive(Clone, Copy, Debug)]
@@ -324,6 +324,13 @@ impl Workspace {
         let mut page = vec![0; ffi::PAGE_LINE_LEN * count];
         Refusal::check(ffi::candidate_page(&self.candidates, count, &mut page))?;
         Ok(page)
+    }
+
+    /// Which of the last call's patches each rectangle touches, and which lies nearest, in the rectangles' order; the places are those
+    /// in `patches`. No patch where it did not look. Refused by 17 where there are more than 64 rectangles, or one has an end before
+    /// its start or above 4,095.
+    pub fn windows(&self, rectangles: &[Rectangle]) -> Result<Vec<Window>, Refusal> {
+        windows::over(&self.patches, self.count(ffi::PATCHES), rectangles)
     }
 
     /// The most pixels that the search's stack ever held, over all patches: exactly the original's. A patch's first pixel counts as

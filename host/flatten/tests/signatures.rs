@@ -229,18 +229,23 @@ fn header_and_ffi_have_the_exported_signatures() {
     assert_eq!(differences(&f.rattle, &f.header, &f.ffi), Vec::<String>::new());
 }
 
-/// Each constant of ffi has its number in an enum of the header.
+/// Each constant of ffi has its number in an enum of the header, and the one that no enum can hold in a macro.
 #[test]
 fn constants_are_the_headers() {
     let f = files();
     let (header, ffi) = (plain(&f.header), plain(&f.ffi));
     let constants: Vec<_> = ffi.split("pub const ").skip(1).map(|c| c.split_once(';').expect("a constant ends").0).collect();
-    assert!(constants.iter().any(|c| c.starts_with("BEYOND: ")), "{constants:?}");
+    assert!(["BEYOND: ", "NO_PATCH: "].iter().all(|name| constants.iter().any(|c| c.starts_with(name))), "{constants:?}");
     for constant in constants {
         // the four places have a name each there
         let name = word(constant).replace("PLACES", "PLACE_TL");
-        let entry = format!("TABLET_{name} = {}", constant.rsplit(' ').next().unwrap());
-        assert!(header.split([',', '{', '}']).any(|e| e.trim() == entry), "{entry}");
+        match constant.rsplit(' ').next().unwrap() {
+            "u64::MAX" => assert!(f.header.lines().any(|l| l == format!("#define TABLET_{name} UINT64_MAX")), "{name}"),
+            number => {
+                let entry = format!("TABLET_{name} = {number}");
+                assert!(header.split([',', '{', '}']).any(|e| e.trim() == entry), "{entry}");
+            }
+        }
     }
 }
 
@@ -264,6 +269,7 @@ fn an_exchange_in_any_of_the_three_is_seen() {
         ("fn tablet_luma(", "r: u8, g: u8", "g: u8, r: u8"),
         ("fn tablet_checkerboard(", "w: usize, h: usize", "h: usize, w: usize"),
         ("fn tablet_candidate_page(", "page: &mut [u8]", "page: &[u8]"),
+        ("fn tablet_patch_windows(", "n: usize,\n    windows: &[u64],\n    k: usize", "k: usize,\n    windows: &[u64],\n    n: usize"),
         ("fn tablet_read_book(", "heads: &mut [u32]", "heads: &mut [u64]"),
         ("fn tablet_warp_record(", "counts: &mut [u64]", "counts: &mut [u32]"),
     ] {
@@ -277,6 +283,7 @@ fn an_exchange_in_any_of_the_three_is_seen() {
         ("float tablet_luma(", "float", "double"),
         ("tablet_checkerboard(", "size_t w, size_t h", "size_t h, size_t w"),
         ("tablet_candidate_page(", "size_t candidates_len, size_t count", "size_t count, size_t candidates_len"),
+        ("tablet_patch_windows(", "const uint64_t *windows", "uint64_t *windows"),
         ("tablet_write_book(", "const uint32_t *heads", "uint32_t *heads"),
         ("tablet_warp_with(", "uint64_t *counts", "const uint64_t *counts"),
     ] {
@@ -292,6 +299,7 @@ fn an_exchange_in_any_of_the_three_is_seen() {
         ("c::tablet_warp_record(", "counts.as_mut_ptr(), counts.len()", "counts.as_mut_ptr(), numbers.len()"),
         ("c::tablet_checkerboard(", "w, h", "h, w"),
         ("c::tablet_candidate_page(", "candidates.len(), count", "count, candidates.len()"),
+        ("c::tablet_patch_windows(", "windows.len(), k", "windows.len(), n"),
         ("c::tablet_write_book(", "numbers.len(), count", "count, numbers.len()"),
     ] {
         assert!(seen(&f.rattle, &f.header, &edited(&f.ffi, place, old, new)), "{place} of ffi");

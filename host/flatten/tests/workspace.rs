@@ -1,6 +1,6 @@
 //! The wrapper.
 
-use flatten::{ffi, Fit, Frame, Grade, Patch, Refusal, Responsible, Workspace};
+use flatten::{ffi, Fit, Frame, Grade, Patch, Rectangle, Refusal, Responsible, Window, Workspace};
 
 const SMALL: Frame = Frame { width: 192, height: 192, cell: 1, margin: 48 };
 
@@ -252,6 +252,165 @@ fn most_patches() {
         let mut mask = [9; 5];
         assert_eq!((ffi::checkerboard(w, h, &mut mask), mask), (number, wanted), "{w} by {h}");
     }
+}
+
+/// Three patches, and their boxes as x0, y0, x1, y1.
+const THREE: [&str; 6] = ["##......", "##......", "....###.", "....#.#.", "....###.", "#......."];
+const BOXES: [[u64; 4]; 3] = [[0, 0, 1, 1], [4, 2, 6, 4], [0, 5, 0, 5]];
+
+/// What a look at such rows leaves.
+fn looked_at(rows: &[&str]) -> Workspace {
+    let mask: Vec<u8> = rows.concat().bytes().map(|c| u8::from(c == b'#')).collect();
+    let mut ws = Workspace::new(rows[0].len(), rows.len(), SMALL).unwrap();
+    ws.label_blobs(&mask).unwrap();
+    ws
+}
+
+fn rectangle([x0, y0, x1, y1]: [u64; 4]) -> Rectangle {
+    Rectangle { x0, y0, x1, y1 }
+}
+
+fn window(count: u64, first: Option<usize>, nearest: Option<usize>) -> Window {
+    Window { count, first, nearest }
+}
+
+#[test]
+fn windows_over_known_patches() {
+    let asked: [(&[&str], [u64; 4], Window); 13] = [
+        // the last pixel of the first box and the first of the second
+        (&THREE, [1, 1, 4, 2], window(2, Some(0), Some(0))),
+        (&THREE, [6, 4, 7, 5], window(1, Some(1), Some(1))),
+        // apart by one: to the right, to the left, above, below and at a corner
+        (&THREE, [2, 0, 3, 1], window(0, None, Some(0))),
+        (&THREE, [2, 2, 3, 4], window(0, None, Some(1))),
+        (&THREE, [4, 0, 6, 1], window(0, None, Some(1))),
+        (&THREE, [4, 5, 6, 5], window(0, None, Some(1))),
+        (&THREE, [7, 5, 7, 5], window(0, None, Some(1))),
+        // the hole of a ring lies in its box
+        (&THREE, [5, 3, 5, 3], window(1, Some(1), Some(1))),
+        (&THREE, [0, 0, 7, 5], window(3, Some(0), Some(1))),
+        // the later patch alone touches, and the earlier is as near
+        (&["#..###"], [1, 0, 3, 0], window(1, Some(1), Some(0))),
+        // 25 + 0 and 9 + 9
+        (&[".......", ".......", ".##....", ".....##", ".....##"], [4, 2, 4, 2], window(0, None, Some(1))),
+        // past the picture
+        (&["#.#"], [4095, 4095, 4095, 4095], window(0, None, Some(1))),
+        (&["...", "..."], [0, 0, 2, 1], window(0, None, None)),
+    ];
+    for (rows, at, wanted) in asked {
+        assert_eq!(looked_at(rows).windows(&[rectangle(at)]), Ok(vec![wanted]), "{rows:?}, {at:?}");
+    }
+}
+
+/// Pixels of a box, both ends counted.
+fn pixels([x0, y0, x1, y1]: [u64; 4]) -> impl Iterator<Item = (u64, u64)> {
+    (y0..=y1).flat_map(move |y| (x0..=x1).map(move |x| (x, y)))
+}
+
+/// Pixel by pixel, and the least distance as often as it comes.
+fn defined(at: [u64; 4]) -> Window {
+    let touching: Vec<usize> = (0..BOXES.len()).filter(|&i| pixels(BOXES[i]).any(|p| pixels(at).any(|q| p == q))).collect();
+    let between = |a: u64, b: u64, c: u64, d: u64| (a + b).abs_diff(c + d).pow(2);
+    let distances = BOXES.map(|b| between(b[0], b[2], at[0], at[2]) + between(b[1], b[3], at[1], at[3]));
+    let least = distances.iter().min().unwrap();
+    window(touching.len() as u64, touching.first().copied(), distances.iter().position(|d| d == least))
+}
+
+/// Every rectangle in the picture and one pixel past it, 64 a call.
+#[test]
+fn windows_by_their_definition() {
+    let ws = looked_at(&THREE);
+    assert_eq!(ws.patches().map(|p| [p.x0, p.y0, p.x1, p.y1]).collect::<Vec<_>>(), BOXES);
+    let spans = |to: u64| (0..=to).flat_map(move |a| (a..=to).map(move |b| (a, b)));
+    let all: Vec<[u64; 4]> = spans(8).flat_map(|(x0, x1)| spans(6).map(move |(y0, y1)| [x0, y0, x1, y1])).collect();
+    assert_eq!(all.len(), 45 * 28);
+    for part in all.chunks(64) {
+        let found = ws.windows(&part.iter().copied().map(rectangle).collect::<Vec<_>>()).unwrap();
+        assert_eq!(found.len(), part.len());
+        for (&at, found) in part.iter().zip(found) {
+            assert_eq!(found, defined(at), "{at:?}");
+        }
+    }
+}
+
+#[test]
+fn rectangles_that_are_refused() {
+    let ws = looked_at(&THREE);
+    let good = [1, 1, 4, 2];
+    let asked = |count: usize, last: [u64; 4]| {
+        let mut all = vec![rectangle(good); count];
+        all[count - 1] = rectangle(last);
+        ws.windows(&all).map(|found| found.len())
+    };
+    assert_eq!((ws.windows(&[]), asked(1, good), asked(64, good)), (Ok(vec![]), Ok(1), Ok(64)));
+    assert_eq!((asked(1, [0, 0, 4095, 4095]), asked(64, [4095; 4])), (Ok(1), Ok(64)));
+    let refusal = asked(65, good).unwrap_err();
+    assert_eq!((refusal.number(), refusal.responsible(), refusal.looked()), (17, Responsible::Rectangles, false));
+    assert_eq!(asked(1000, good), Err(refusal));
+    for last in [[5, 1, 4, 2], [1, 3, 4, 2], [1, 1, 4096, 2], [1, 1, 4, 4096], [1, 1, u64::MAX, 2], [u64::MAX; 4]] {
+        assert_eq!((asked(1, last), asked(64, last)), (Err(refusal), Err(refusal)), "{last:?}");
+    }
+    // A refusal is no call that looks.
+    assert_eq!(ws.patches().len(), 3);
+}
+
+/// Without a look there is an empty list.
+#[test]
+fn windows_are_those_of_the_last_look() {
+    let whole = [rectangle([0, 0, 7, 5])];
+    let (none, three) = (Ok(vec![window(0, None, None)]), Ok(vec![window(3, Some(0), Some(1))]));
+    assert_eq!(Workspace::new(8, 6, SMALL).unwrap().windows(&whole), none);
+    let mut ws = looked_at(&THREE);
+    assert_eq!(ws.windows(&whole), three);
+    assert_eq!(ws.label_blobs(&[1; 47]).map_err(Refusal::number), Err(2));
+    assert_eq!(ws.windows(&whole), none);
+    assert_eq!(ws.windows(&[rectangle([1, 0, 0, 0])]).map_err(Refusal::number), Err(17));
+    ws.label_blobs(&[0; 48]).unwrap();
+    assert_eq!(ws.windows(&whole), none);
+}
+
+/// The list of such boxes; of a record nothing else is read.
+fn list(boxes: &[[u64; 4]]) -> Vec<u64> {
+    boxes.iter().flat_map(|b| [u64::MAX, 0, u64::MAX, b[0], b[1], b[2], b[3], u64::MAX]).collect()
+}
+
+#[test]
+fn a_refusal_of_the_library_leaves_the_answers() {
+    let (good, bad) = ([1, 1, 4, 2], [1, 1, 0, 2]);
+    let ends = |last: [u64; 4], count: usize| [vec![good; count - 1], vec![last]].concat().concat();
+    let boxes = |last: [u64; 4]| list(&[BOXES[0], BOXES[1], last]);
+    let far = [1 << 61, 1 << 62, 1 << 63, usize::MAX / 3 + 1, usize::MAX];
+    let mut asked = vec![
+        // Each a number too short, which goes before 17.
+        (boxes(bad)[..23].to_vec(), 3, ends(bad, 2), 2, 6, 3),
+        (boxes(bad), 3, ends(bad, 2)[..7].to_vec(), 2, 6, 3),
+        (boxes(bad), 3, ends(bad, 2), 2, 5, 3),
+        (boxes(good), 3, ends(good, 65), 65, 194, 3),
+        (boxes(good), 3, ends(good, 65), 65, 195, 17),
+        (boxes(good), 3, ends(bad, 2), 2, 6, 17),
+        (boxes(bad), 3, ends(good, 2), 2, 6, 17),
+        // The boxes are tried without a rectangle too.
+        (boxes(bad), 3, vec![], 0, 6, 17),
+        (boxes([4096, 0, 4096, 0]), 3, vec![], 0, 6, 17),
+    ];
+    asked.extend(far.map(|n| (boxes(good), n, ends(good, 2), 2, 6, 3)));
+    asked.extend(far.map(|k| (boxes(good), 3, ends(good, 2), k, 6, 3)));
+    for (patches, n, windows, k, length, number) in asked {
+        let mut answers = vec![9; length];
+        assert_eq!(ffi::patch_windows(&patches, n, &windows, k, &mut answers), number, "{n} patches, {k} rectangles, {length}");
+        assert!(answers.iter().all(|&a| a == 9), "{n} patches, {k} rectangles, {length}");
+    }
+}
+
+/// What lies past the count is not looked at, and what lies past the answers stays.
+#[test]
+fn longer_lists_of_the_library() {
+    let (patches, windows) = (list(&[BOXES[0], [4, 2, 4095, 4095], [9, 9, 8, 8]]), [1, 1, 4, 2, 7, 7, 6, 6]);
+    let mut answers = [9; 5];
+    assert_eq!((ffi::patch_windows(&patches, 2, &windows, 1, &mut answers), answers), (0, [2, 0, 0, 9, 9]));
+    assert_eq!((ffi::patch_windows(&patches, 0, &windows, 1, &mut answers), answers), (0, [0, ffi::NO_PATCH, ffi::NO_PATCH, 9, 9]));
+    assert_eq!((ffi::patch_windows(&patches, 2, &windows, 0, &mut answers), answers), (0, [0, ffi::NO_PATCH, ffi::NO_PATCH, 9, 9]));
+    assert_eq!(ffi::patch_windows(&[], 0, &[], 0, &mut []), 0);
 }
 
 #[test]

@@ -5,7 +5,9 @@
 //! without label_blobs, lens search is fit_geometry without detect_fiducials. Areas are warm: lent again for each run. The row
 //! `areas made anew` lends fresh ones each time, as the original makes its own. The ratio, the row's last number, is that of the
 //! medians.
-//! Then cost against size, and against the number of patches.
+//! Then cost against size, and against the number of patches; and 64 rectangles over a patch list in one call against 64 calls with
+//! one each, by the number of patches. Those calls are short: beside the patches stands how often a run repeats them, and the
+//! figures are for once.
 
 use comparison::clock::cpu_ms;
 use comparison::original::{image, numbers, spec};
@@ -13,6 +15,7 @@ use comparison::{kinds, Case, Memory};
 use flatten::ffi;
 use lpcore::geometry as g;
 use lpcorepub::geometry as inner;
+use scene::Random;
 use std::hint::black_box;
 
 /// Keeps a result from being left out.
@@ -51,15 +54,14 @@ fn less((a, b): (Time, Time), (c, d): (Time, Time)) -> (Time, Time) {
     (minus(a, c), minus(b, d))
 }
 
-fn row(name: &str, (ours, theirs): (Time, Time)) {
-    println!(
-        "| {name} | {:.3} | {:.3} | {:.3} | {:.3} | {:.2} |",
-        ours.median,
-        ours.least,
-        theirs.median,
-        theirs.least,
-        ours.median / theirs.median
-    );
+fn row(name: &str, times: (Time, Time)) {
+    row_with(name, 3, times);
+}
+
+/// With so many decimals for the times.
+fn row_with(name: &str, places: usize, (a, b): (Time, Time)) {
+    let times = [a.median, a.least, b.median, b.least].map(|t| format!("{t:.places$}")).join(" | ");
+    println!("| {name} | {times} | {:.2} |", a.median / b.median);
 }
 
 fn head(what: &str) {
@@ -161,6 +163,48 @@ fn grated(pitch: f64) -> Case {
     Case { w: s.w, h: s.h, frame: kinds::frame(s.card.frame), data: s.take() }
 }
 
+/// The patch list that a look at a picture leaves, and how many patches it has.
+fn listed(c: &Case) -> (Vec<u64>, usize) {
+    let (mut m, mut counts) = (Memory::new(c.w, c.h, c.frame), [0; ffi::LISTED_LEN]);
+    let number = ffi::fiducial_candidates(&c.data, c.w, c.h, c.frame, &mut m.lend().0, &mut counts);
+    assert_eq!(number, 0, "a look at the grating");
+    (m.patches, counts[ffi::PATCHES] as usize)
+}
+
+/// Boxes that a finger drags on a picture: 64 of 20 to 300 pixels a side, inside it.
+fn dragged(w: usize, h: usize) -> Vec<u64> {
+    let mut r = Random::new(11);
+    let mut span = |side: usize| {
+        let length = r.between(20, 300);
+        let start = r.below(side - length + 1);
+        [start as u64, (start + length - 1) as u64]
+    };
+    let one = |_| {
+        let ([x0, x1], [y0, y1]) = (span(w), span(h));
+        [x0, y0, x1, y1]
+    };
+    (0..ffi::MOST_WINDOWS).flat_map(one).collect()
+}
+
+/// 64 rectangles in one call, and in 64. Short ones are repeated, so that the clock's own time is little beside theirs.
+fn windows(c: &Case, runs: usize) {
+    let ((patches, n), all) = (listed(c), dragged(c.w, c.h));
+    let repeats = (100_000 / n.max(1)).max(1);
+    let (mut once, mut each) = (vec![0; ffi::WINDOW_LEN * ffi::MOST_WINDOWS], vec![0; ffi::WINDOW_LEN * ffi::MOST_WINDOWS]);
+    let together = || (0..repeats).for_each(|_| done(ffi::patch_windows(&patches, n, &all, ffi::MOST_WINDOWS, &mut once)));
+    let alone = || {
+        for _ in 0..repeats {
+            for (at, answers) in all.chunks_exact(ffi::RECTANGLE_LEN).zip(each.chunks_exact_mut(ffi::WINDOW_LEN)) {
+                done(ffi::patch_windows(&patches, n, at, 1, answers));
+            }
+        }
+    };
+    let (a, b) = both(runs, together, alone);
+    assert!(once == each && once.iter().any(|&answer| answer > 0), "together they are answered as alone");
+    let part = |t: Time| Time { median: t.median / repeats as f64, least: t.least / repeats as f64 };
+    row_with(&format!("{n} patches, {repeats} a run"), 5, (part(a), part(b)));
+}
+
 fn main() {
     let runs = std::env::args().nth(1).map_or(Ok(21), |a| a.parse());
     let Ok(runs @ 1..) = runs else {
@@ -182,9 +226,12 @@ fn main() {
     head("rectify, by patches");
     for pitch in [0.0, 32.0, 16.0, 8.0, 4.0] {
         let c = grated(pitch);
-        let mut m = Memory::new(c.w, c.h, c.frame);
-        let mut counts = [0; ffi::LISTED_LEN];
-        ffi::fiducial_candidates(&c.data, c.w, c.h, c.frame, &mut m.lend().0, &mut counts);
-        row(&format!("{} patches", counts[ffi::PATCHES]), whole(&c, runs));
+        row(&format!("{} patches", listed(&c).1), whole(&c, runs));
+    }
+    println!();
+
+    println!("| windows, by patches | 64 together, median | least | 64 calls, median | least | ratio |\n|---|---|---|---|---|---|");
+    for pitch in [0.0, 32.0, 4.0] {
+        windows(&grated(pitch), runs);
     }
 }

@@ -4,11 +4,12 @@
 //
 // stdin is the capture's bytes. stdout has the answers' words, one a line, in hexadecimal: each call's refusal number, and
 // then what it wrote; of luma, which is never refused, the pattern. Of the areas some entries are printed, of bytes every
-// sixteenth word of eight, of the candidate page, the book of fits and the checkerboard all. The number of waiting pixels
-// is the most that the original's stack held, by `vectors::patches`. The smallest lengths are those of docs/REQUIREMENTS.md,
-// 3.1. The original has no candidate page: its text is made here, from the original's candidates. Nor has it a book of fits,
-// whose bytes are made here by to_le_bytes, or a checkerboard, which is a formula here. Pixels beyond the picture's edge are
-// counted here, by its `map` and `vectors::inside`, and the outlines of patches by `vectors::patches`.
+// sixteenth word of eight, of the candidate page, the book of fits, the checkerboard and the answers for rectangles all. The
+// number of waiting pixels is the most that the original's stack held, by `vectors::patches`. The smallest lengths are those of
+// docs/REQUIREMENTS.md, 3.1. The original has no candidate page: its text is made here, from the original's candidates. Nor has it a book of fits,
+// whose bytes are made here by to_le_bytes, a checkerboard, which is a formula here, or rectangles over a patch list, whose
+// answers are worked out at their place. Pixels beyond the picture's edge are counted here, by its `map` and `vectors::inside`,
+// and the outlines of patches by `vectors::patches`.
 use lpcorepub::frame::FrameSpec;
 use lpcorepub::geometry::{
     adaptive_black_mask, bilinear, detect_fiducials, fiducial_candidates, fit_for, fit_geometry, grid_score, luma_plane, margin_for,
@@ -187,6 +188,22 @@ fn boards(v: &mut Vectors) {
     }
 }
 
+// ---- rectangles over a patch list
+
+// Boxes from 1, 2 to 3, 4, from 10, 20 to 18, 25 and from 40, 5 to 41, 6. The rectangle from 3, 4 to 13, 23 touches the first
+// two, and the second is nearer: 12·12 + 21·21 and 12·12 + 18·18 between the doubled centres. That from 19, 26 to 27, 29 lies just
+// past the second, and nearest to it. Answers behind the second stay, and all of them after a refusal.
+fn windows(v: &mut Vectors) {
+    v.word(0);
+    for number in [2, 0, 1, 0, u64::MAX, 1, 9] {
+        v.word(number);
+    }
+    for number in [3, 17] {
+        v.word(number);
+        words(v, &[9; 7]);
+    }
+}
+
 // ---- the calls
 
 // How many pixels of the card are read from beyond the picture's edge.
@@ -330,5 +347,6 @@ fn main() {
     matrices(&mut v, &f, &points, &fit);
     book(&mut v);
     boards(&mut v);
+    windows(&mut v);
     v.write("test_tablet");
 }

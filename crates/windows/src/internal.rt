@@ -1,0 +1,2 @@
+// What crates above need and the requirements do not call public.
+pub use super::answers::window_at;
