@@ -11,7 +11,7 @@ use Rattle.base.proofs.Turns.{turns-begin, turns-step, turns-keep, turns-each}
 use Rattle.base.proofs.Plane.{filled-begin, filled-step, filled-past, filled-at, filled-over, filled-cong}
 use Rattle.windows.specs.Rectangles.{touches}
 use Rattle.windows.specs.Windows.{noPatch}
-use Rattle.windows.specs.Steps.{met, noTally, tallyOf, Tallies, tallies, tallyAt, talliesOf, noTallies}
+use Rattle.windows.specs.Steps.{met, farthest, noTally, tallyOf, Tallies, tallies, tallyAt, talliesOf, noTallies}
 use Rattle.windows.specs.declared.Rectangle.{Rectangle}
 use Rattle.windows.specs.declared.tally.Tally.{Tally}
 
@@ -98,7 +98,7 @@ pub none-begun : (k : ℕ) → noTallies ≡ talliesOf (λ i. noTally) k noTalli
 none-begun k = tallies-same (filled-replicate _ 64 k) (filled-replicate _ 64 k) (filled-replicate _ 64 k) (filled-replicate _ 64 k)
 
 pub none-long : (k : ℕ) → k ≤ 64 → Long k noTallies
-none-long k h = record { counts = long 0; firsts = long noPatch; nearests = long noPatch; least = long noPatch }
+none-long k h = record { counts = long 0; firsts = long noPatch; nearests = long noPatch; least = long farthest }
   where
     long : (v : ℕ) → k ≤ length (replicate 64 v)
     long v = omega (arith, length-replicate 64 v)

@@ -16,7 +16,7 @@ use Rattle.blobs.proofs.Sums.{total-same}
 use Rattle.windows.specs.Rectangles.{Valid, Shares, touches, distance}
 use Rattle.windows.specs.Windows.{HowMany, FirstWith, LeastOf, WindowOf, firstMet, nearestMet, windowStep, noWindow, windowOf}
 use Rattle.windows.specs.Windows.{noPatch, patchNumber, patchOf}
-use Rattle.windows.specs.Steps.{met, tallyOf}
+use Rattle.windows.specs.Steps.{met, farthest, tallyOf}
 use Rattle.windows.specs.declared.Rectangle.{Rectangle}
 use Rattle.windows.specs.declared.Patch.{Patch}
 use Rattle.windows.specs.declared.Patch.the-variants.{At, Nothing}
@@ -174,7 +174,7 @@ named n (At j) f h = sym (pick-no _ Nothing (At j) (place-number n j f h))
 module _ (t : ℕ → Rectangle) (r : Rectangle) where
   -- the distance of the nearest
   unfoldable pub leastNumber : Patch → ℕ
-  leastNumber Nothing = noPatch
+  leastNumber Nothing = farthest
   leastNumber (At j) = distance r (t j)
 
   abbrev pub tallied : Window → Tally
@@ -190,13 +190,13 @@ module _ (t : ℕ → Rectangle) (r : Rectangle) where
       by-test true = sym (pick-yes _ n noPatch (eq-eqb noPatch noPatch refl))
       by-test false = refl
 
-  near-number : (n : ℕ) (p : Patch) → distance r (t n) < noPatch
+  near-number : (n : ℕ) (p : Patch) → distance r (t n) < farthest
       → (cond (ltb (distance r (t n)) (leastNumber p)) n (patchNumber p) ≡ patchNumber (nearestMet t r n p))
       × (cond (ltb (distance r (t n)) (leastNumber p)) (distance r (t n)) (leastNumber p) ≡ leastNumber (nearestMet t r n p))
   unfolding nearestMet patchNumber leastNumber
   near-number n Nothing h =
-      let e = lt-ltb (distance r (t n)) noPatch h in
-      (sym (pick-yes _ n noPatch e), sym (pick-yes _ (distance r (t n)) noPatch e))
+      let e = lt-ltb (distance r (t n)) farthest h in
+      (sym (pick-yes _ n noPatch e), sym (pick-yes _ (distance r (t n)) farthest e))
   near-number n (At i) h = by-test (ltb (distance r (t n)) (distance r (t i)))
     where
       by-test : (b : Bool) → (cond b n i ≡ patchNumber (cond b (At n) (At i))) × (cond b (distance r (t n)) (distance r (t i)) ≡ leastNumber (cond b (At n) (At i)))
@@ -210,7 +210,7 @@ module _ (t : ℕ → Rectangle) (r : Rectangle) where
     tally-is (suc n) f h =
         let a = windowOf t n r in
         let g : (j : ℕ) → j < n → Valid (t j) = λ j l. h j (omega arith) in
-        let d : distance r (t n) < noPatch = omega (arith, distance-most r (t n) s (h n (omega arith))) in
+        let d : distance r (t n) < farthest = omega (arith, distance-most r (t n) s (h n (omega arith))) in
         let b = near-number n (a .nearest) d in
         ap (met r (t n) n) (tally-is n (omega arith) g)
         ∙ tally-same {t = met r (t n) n (tallied a)} {u = tallied (windowStep t r n a)} refl (first-number n (a .first) (omega arith) (first-before (λ j. Shares r (t j)) n (a .first) (first-is t r s n g))) (b .0) (b .1)

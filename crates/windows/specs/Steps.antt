@@ -1,5 +1,5 @@
 -- The walk over the list in numbers: what the functions behind `patch_windows` require and leave. Assumes nothing.
-use Prim.Native.Nat.{ℕ, _+_, _*_, _≤_}
+use Prim.Native.Nat.{ℕ, _+_, _*_, _-_, _^_, _≤_}
 use mathlib.Core.Path.{_≡_}
 use mathlib.Core.Bool.{true, cond, _&&_}
 use mathlib.Core.List.{List, [], _∷_}
@@ -33,9 +33,13 @@ met r b j t =
       least = cond nearer (distance r b) (t .least);
     }
 
--- before any: no two centres are so far apart as `least` says
+-- farther than any two centres are apart
+abbrev pub farthest : ℕ
+farthest = 2 ^ 64 - 1
+
+-- before any
 abbrev pub noTally : Tally
-noTally = record { count = 0; first = noPatch; nearest = noPatch; least = noPatch }
+noTally = record { count = 0; first = noPatch; nearest = noPatch; least = farthest }
 
 -- after the first n patches, whose boxes are t 0, t 1, ..
 unfoldable pub tallyOf : (ℕ → Rectangle) → ℕ → Rectangle → Tally

@@ -9,11 +9,11 @@ ghost use mathlib.Core.List.{[], _∷_, _++_};
 ghost use Prim.Native.Nat.{_*_, _+_, _≤_};
 ghost use lib.ListN.{length, drop};
 ghost use Rattle.base.specs.Loops.{joined};
-ghost use Rattle.windows.specs.Windows.{patchOf, windowAt};
+ghost use Rattle.windows.specs.Windows.{mostWindows, windowLength, patchOf, windowAt};
 ghost use Rattle.windows.specs.Steps.{numbersAt};
 
 fn put_window(area: &mut [u64], count: u64, first: u64, nearest: u64)
-    requires { ⌜ length (now area) ≡ 3 ⌝ }
+    requires { ⌜ length (now area) ≡ windowLength ⌝ }
     ensures { λ _. ⌜ now (area .exit) ≡ count ∷ first ∷ nearest ∷ [] ⌝ }
 {
     area[0] = count;
@@ -29,9 +29,9 @@ pub fn put_windows(
     k: usize,
     answers: &mut [u64],
 )
-    requires { ⌜ (k ≤ 64) × (3 * k ≤ length (now answers)) ⌝ }
+    requires { ⌜ (k ≤ mostWindows) × (windowLength * k ≤ length (now answers)) ⌝ }
     ensures { λ _. ⌜ now (answers .exit) ≡ joined (numbersAt (now (counts .entry)) (now (firsts .entry))
-        (now (nearests .entry))) k ++ drop (3 * k) (now (answers .entry)) ⌝ }
+        (now (nearests .entry))) k ++ drop (windowLength * k) (now (answers .entry)) ⌝ }
 {
     for i in 0..k {
         let at = WINDOW_LENGTH * i;
@@ -52,7 +52,7 @@ fn patch_of(v: u64) -> Patch
 
 // Answer i of an area.
 pub fn window_at(answers: &[u64], i: usize) -> Window
-    requires { ⌜ 3 * (i + 1) ≤ length (now answers) ⌝ }
+    requires { ⌜ windowLength * (i + 1) ≤ length (now answers) ⌝ }
     ensures { λ r. ⌜ r ≡ windowAt (now (answers .entry)) i ⌝ }
 {
     let at = WINDOW_LENGTH * i;

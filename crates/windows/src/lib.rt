@@ -17,9 +17,9 @@ ghost use Rattle.windows.specs.Contracts.{windowTests, Windowing};
 
 // So many rectangles one call takes.
 pub const MOST_WINDOWS: usize = 64;
-// So many numbers a rectangle has, and an answer.
+// So many numbers a rectangle has.
 pub const RECTANGLE_LENGTH: usize = 4;
-
+// So many numbers an answer has.
 pub const WINDOW_LENGTH: usize = 3;
 // Stands for no patch. An index taken from it by mistake is past every list.
 pub const NO_PATCH: u64 = 18_446_744_073_709_551_615;

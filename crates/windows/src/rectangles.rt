@@ -7,15 +7,15 @@ ghost use mathlib.Core.Path.{_≡_};
 ghost use Prim.Native.Nat.{_*_, _+_, _≤_, _<_};
 ghost use lib.ListN.{length};
 ghost use Rattle.blobs.specs.Patches.{recordLength};
-ghost use Rattle.windows.specs.Rectangles.{rectangleAt, boxAt, Valid, valid, everyRectangle};
-ghost use Rattle.windows.specs.Rectangles.{touches, apart, distance};
+ghost use Rattle.windows.specs.Rectangles.{rectangleLength, rectangleAt, boxAt, Valid, valid};
+ghost use Rattle.windows.specs.Rectangles.{everyRectangle, touches, apart, distance};
 
 // No end of a rectangle lies above it: a capture's last column and row are at most 4,095.
 const LAST: u64 = 4095;
 
 // Rectangle i of those handed in.
 pub fn rectangle_at(windows: &[u64], i: usize) -> Rectangle
-    requires { ⌜ 4 * (i + 1) ≤ length (now windows) ⌝ }
+    requires { ⌜ rectangleLength * (i + 1) ≤ length (now windows) ⌝ }
     ensures { λ r. ⌜ r ≡ rectangleAt (now (windows .entry)) i ⌝ }
 {
     let at = RECTANGLE_LENGTH * i;
@@ -50,7 +50,7 @@ pub fn valid(r: Rectangle) -> bool
 
 // So it is with each of the first k rectangles.
 pub fn every_rectangle(windows: &[u64], k: usize) -> bool
-    requires { ⌜ 4 * k ≤ length (now windows) ⌝ }
+    requires { ⌜ rectangleLength * k ≤ length (now windows) ⌝ }
     ensures { λ r. ⌜ r ≡ everyRectangle (now (windows .entry)) k ⌝ }
 {
     let mut i: usize = 0;

@@ -10,7 +10,7 @@ ghost use Rattle.windows.specs.Rectangles.{Valid};
 ghost use Rattle.windows.specs.Steps.{met};
 
 // Farther than any two centres are apart.
-pub const FARTHEST: u64 = NO_PATCH;
+pub const FARTHEST: u64 = 18_446_744_073_709_551_615;
 
 // The answer up to some patch, in numbers, and the distance of the nearest.
 pub struct Tally {

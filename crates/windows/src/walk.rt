@@ -12,7 +12,9 @@ ghost use mathlib.Core.Path.{_≡_};
 ghost use Prim.Native.Nat.{ℕ, _+_, _*_, _≤_, _<_, _^_};
 ghost use lib.ListN.{length, getD};
 ghost use Rattle.blobs.specs.Patches.{recordLength};
-ghost use Rattle.windows.specs.Rectangles.{boxAt, rectangleAt, everyRectangle, everyBox, Valid};
+ghost use Rattle.windows.specs.Rectangles.{rectangleLength, rectangleAt, boxAt, Valid};
+ghost use Rattle.windows.specs.Rectangles.{everyRectangle, everyBox};
+ghost use Rattle.windows.specs.Windows.{mostWindows};
 ghost use Rattle.windows.specs.Steps.{tallies, tallyAt, talliesOf, noTallies, met, tallyOf};
 
 // Patch j, whose box is b, for each of the k rectangles.
@@ -26,8 +28,8 @@ fn meet_all(
     nearests: &mut [u64; MOST_WINDOWS],
     least: &mut [u64; MOST_WINDOWS],
 )
-    requires { ⌜ (k ≤ 64) × (4 * k ≤ length (now windows)) × (everyRectangle (now windows) k ≡ true) × Valid b
-        × (j + 1 < 2 ^ 64) × ((i : ℕ) → i < k → getD (now counts) i 0 ≤ j) ⌝ }
+    requires { ⌜ (k ≤ mostWindows) × (rectangleLength * k ≤ length (now windows))
+        × (everyRectangle (now windows) k ≡ true) × Valid b × (j + 1 < 2 ^ 64) × ((i : ℕ) → i < k → getD (now counts) i 0 ≤ j) ⌝ }
     ensures { λ _. ⌜ tallies (now (counts .exit)) (now (firsts .exit)) (now (nearests .exit)) (now (least .exit))
         ≡ talliesOf (λ i. met (rectangleAt (now (windows .entry)) i) b j (tallyAt (tallies (now (counts .entry))
         (now (firsts .entry)) (now (nearests .entry)) (now (least .entry))) i)) k (tallies (now (counts .entry))
@@ -61,8 +63,8 @@ pub fn walk(
     nearests: &mut [u64; MOST_WINDOWS],
     least: &mut [u64; MOST_WINDOWS],
 ) -> bool
-    requires { ⌜ (recordLength * n ≤ length (now patches)) × (k ≤ 64) × (4 * k ≤ length (now windows))
-        × (everyRectangle (now windows) k ≡ true)
+    requires { ⌜ (recordLength * n ≤ length (now patches)) × (k ≤ mostWindows)
+        × (rectangleLength * k ≤ length (now windows)) × (everyRectangle (now windows) k ≡ true)
         × (tallies (now counts) (now firsts) (now nearests) (now least) ≡ noTallies) ⌝ }
     ensures { λ r. ⌜ (r ≡ everyBox (now (patches .entry)) n) × (r ≡ true
         → tallies (now (counts .exit)) (now (firsts .exit)) (now (nearests .exit)) (now (least .exit))

@@ -1,7 +1,7 @@
 //! The book of fits, which the original does not have, against a definition of its own: records are laid out by `to_le_bytes`,
 //! and bytes are a book where the records cut out of them are laid out as these very bytes.
 
-use crate::few;
+use crate::{few, Defined};
 use flatten::ffi;
 use scene::Random;
 use std::collections::BTreeSet;
@@ -87,42 +87,6 @@ impl Call {
         Ok(laid(heads, &self.numbers[..FIT * count]))
     }
 
-    /// The number that the call must give, and what it must leave: all that it does not store as it was.
-    pub fn expected(&self) -> (u32, Call) {
-        let mut left = self.clone();
-        let stored = match self.count {
-            Some(count) => self.written(count).map(|book| left.book[..book.len()].copy_from_slice(&book)),
-            None => self.read().map(|(heads, numbers)| {
-                left.heads[..heads.len()].copy_from_slice(&heads);
-                left.numbers[..numbers.len()].copy_from_slice(&numbers);
-            }),
-        };
-        (stored.err().unwrap_or(0), left)
-    }
-
-    pub fn run(&mut self) -> u32 {
-        match self.count {
-            Some(count) => ffi::write_book(&self.heads, &self.numbers, count, &mut self.book),
-            None => ffi::read_book(&self.book, &mut self.heads, &mut self.numbers),
-        }
-    }
-
-    /// Every entry of all three slices.
-    pub fn same(&self, wanted: &Call) -> Result<(), String> {
-        same("heads", &self.heads, &wanted.heads)?;
-        same("numbers", &self.numbers, &wanted.numbers)?;
-        same("book", &self.book, &wanted.book)
-    }
-
-    /// Makes the call: its number, where that and all that it left are as they should be.
-    fn check(&mut self) -> Result<u32, String> {
-        let (number, wanted) = self.expected();
-        match self.run() {
-            n if n == number => self.same(&wanted).map(|()| number),
-            n => Err(format!("refusal {n}, it should be {number}")),
-        }
-    }
-
     /// Something of the records becomes wrong, or just not; where the book is read, something of it alone too.
     pub fn spoil(&mut self, r: &mut Random) {
         let spoiled = [(true, false), (true, false), (false, true), (true, true)];
@@ -154,6 +118,33 @@ impl Call {
             self.heads.iter_mut().for_each(|v| *v = r.bits() as u32);
             self.numbers.iter_mut().for_each(|v| *v = r.bits());
         }
+    }
+}
+
+impl Defined for Call {
+    fn expected(&self) -> (u32, Call) {
+        let mut left = self.clone();
+        let stored = match self.count {
+            Some(count) => self.written(count).map(|book| left.book[..book.len()].copy_from_slice(&book)),
+            None => self.read().map(|(heads, numbers)| {
+                left.heads[..heads.len()].copy_from_slice(&heads);
+                left.numbers[..numbers.len()].copy_from_slice(&numbers);
+            }),
+        };
+        (stored.err().unwrap_or(0), left)
+    }
+
+    fn run(&mut self) -> u32 {
+        match self.count {
+            Some(count) => ffi::write_book(&self.heads, &self.numbers, count, &mut self.book),
+            None => ffi::read_book(&self.book, &mut self.heads, &mut self.numbers),
+        }
+    }
+
+    fn same(&self, wanted: &Call) -> Result<(), String> {
+        same("heads", &self.heads, &wanted.heads)?;
+        same("numbers", &self.numbers, &wanted.numbers)?;
+        same("book", &self.book, &wanted.book)
     }
 }
 

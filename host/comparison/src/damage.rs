@@ -3,7 +3,7 @@
 //! other garbage in areas of the smallest lengths.
 
 use crate::original;
-use crate::{boards, books, kinds, pages, sizes, windows, Case, Memory};
+use crate::{boards, books, kinds, pages, sizes, windows, Case, Defined, Memory};
 use flatten::{ffi, Frame};
 use scene::Random;
 

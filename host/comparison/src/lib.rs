@@ -32,6 +32,26 @@ pub fn bits(x: f64) -> u64 {
     }
 }
 
+/// A call whose number and what it leaves are worked out by a definition of their own.
+pub trait Defined: Sized {
+    /// The number that the call must give, and what it must leave: all that it does not store as it was.
+    fn expected(&self) -> (u32, Self);
+
+    fn run(&mut self) -> u32;
+
+    /// Every entry of what it is handed.
+    fn same(&self, wanted: &Self) -> Result<(), String>;
+
+    /// Makes the call: its number, where that and all that it left are as they should be.
+    fn check(&mut self) -> Result<u32, String> {
+        let (number, wanted) = self.expected();
+        match self.run() {
+            n if n == number => self.same(&wanted).map(|()| number),
+            n => Err(format!("refusal {n}, it should be {number}")),
+        }
+    }
+}
+
 /// How many records a drawn list has: mostly below five, now and then about ten or a hundred.
 fn few(r: &mut Random) -> usize {
     match r.below(50) {

@@ -1,7 +1,7 @@
 //! Rectangles over a patch list, which the original does not have, against a definition of its own: each rectangle by itself, its
 //! columns and rows as sets in which those of a box are looked for, and all distances worked out before the least is taken.
 
-use crate::few;
+use crate::{few, Defined};
 use flatten::ffi;
 use scene::Random;
 
@@ -81,33 +81,6 @@ impl Call {
         Ok(rectangles.iter().flat_map(|&at| window(at, &boxes)).collect())
     }
 
-    /// The number that the call must give, and what it must leave: all that it does not store as it was.
-    pub fn expected(&self) -> (u32, Call) {
-        let mut left = self.clone();
-        let stored = self.stored().map(|answers| left.answers[..answers.len()].copy_from_slice(&answers));
-        (stored.err().unwrap_or(0), left)
-    }
-
-    pub fn run(&mut self) -> u32 {
-        ffi::patch_windows(&self.patches, self.n, &self.windows, self.k, &mut self.answers)
-    }
-
-    /// Every number of all three slices.
-    pub fn same(&self, wanted: &Call) -> Result<(), String> {
-        same("patches", &self.patches, &wanted.patches)?;
-        same("windows", &self.windows, &wanted.windows)?;
-        same("answers", &self.answers, &wanted.answers)
-    }
-
-    /// Makes the call: its number, where that and all that it left are as they should be.
-    fn check(&mut self) -> Result<u32, String> {
-        let (number, wanted) = self.expected();
-        match self.run() {
-            n if n == number => self.same(&wanted).map(|()| number),
-            n => Err(format!("refusal {n}, it should be {number}")),
-        }
-    }
-
     /// An end of a rectangle or a box, or of the last, becomes one that is just not allowed, or just is.
     pub fn spoil(&mut self, r: &mut Random) {
         let of_patches = self.windows.is_empty() || r.chance(0.5);
@@ -142,6 +115,24 @@ impl Call {
         let unread = self.windows.iter_mut().enumerate().filter(|(i, _)| i / RECTANGLE >= k);
         unread.for_each(|(_, v)| *v = r.bits());
         self.answers.iter_mut().for_each(|v| *v = r.bits());
+    }
+}
+
+impl Defined for Call {
+    fn expected(&self) -> (u32, Call) {
+        let mut left = self.clone();
+        let stored = self.stored().map(|answers| left.answers[..answers.len()].copy_from_slice(&answers));
+        (stored.err().unwrap_or(0), left)
+    }
+
+    fn run(&mut self) -> u32 {
+        ffi::patch_windows(&self.patches, self.n, &self.windows, self.k, &mut self.answers)
+    }
+
+    fn same(&self, wanted: &Call) -> Result<(), String> {
+        same("patches", &self.patches, &wanted.patches)?;
+        same("windows", &self.windows, &wanted.windows)?;
+        same("answers", &self.answers, &wanted.answers)
     }
 }
 
