@@ -1,10 +1,10 @@
 -- Laws of `filled`, by which a loop writes a plane, and of `byRow`. Assumes nothing.
 use mathlib.Core.Path.{_≡_, refl, sym, ap, _∙_, subst⁻¹}
-use mathlib.Core.List.{List}
+use mathlib.Core.List.{List, _∷_}
 use mathlib.Core.Logic.{⊎-elim}
 use Prim.Native.Nat.{ℕ, zero, suc, _+_, _*_, _/_, _≤_, _<_}
 use native.Mathlib.Omega.{arith}
-use lib.ListN.{length, getD, set, length-set}
+use lib.ListN.{length, getD, set, replicate, length-set}
 use lib.Seq.{getD-set-same, getD-set-other, ext-getD}
 use Rattle.base.specs.Loops.{turns, fillAt, filled, byRow}
 use Rattle.base.proofs.Turns.{turns-begin, turns-step, turns-keep, turns-cong}
@@ -78,6 +78,17 @@ filled-over f g m (suc n) l h r =
     filled-is f l (suc n) (f 0) (filled f (suc n) b) r (length-filled f b (suc n) ∙ length-filled g l m)
     (λ k i. filled-at f b (suc n) k (f 0) i e)
     (λ k i. filled-past f b (suc n) k (f 0) i ∙ filled-past g l m k (f 0) (omega arith))
+
+-- one value over itself
+set-replicate : {A : Type 0} (n i : ℕ) (v : A) → set (replicate n v) i v ≡ replicate n v
+set-replicate zero i v = refl
+set-replicate (suc n) zero v = refl
+set-replicate (suc n) (suc i) v = ap (λ l. v ∷ l) (set-replicate n i v)
+
+pub filled-replicate : {A : Type 0} (v : A) (n k : ℕ) → replicate n v ≡ filled (λ i. v) k (replicate n v)
+unfolding filled
+filled-replicate v n k =
+    sym (turns-keep (fillAt (λ i. v)) (replicate n v) (λ b. b ≡ replicate n v) refl (λ i b e. ap (λ z. set z i v) e ∙ set-replicate n i v) k)
 
 -- the entry at column x and row y
 pub by-row : {A : Type 0} (f : ℕ → ℕ → A) (w x y : ℕ) → x < w → byRow w f (y * w + x) ≡ f x y

@@ -1,14 +1,12 @@
 -- The tallies in their four lists: begun, one more written, and read back. Assumes nothing.
-use Prim.Native.Nat.{ℕ, zero, suc, _+_, _≤_, _<_}
+use Prim.Native.Nat.{ℕ, _+_, _≤_, _<_}
 use native.Mathlib.Nat.{le-refl}
 use native.Mathlib.Omega.{arith}
-use mathlib.Core.Path.{_≡_, refl, sym, ap, _∙_}
-use mathlib.Core.List.{_∷_}
+use mathlib.Core.Path.{_≡_, refl, ap, _∙_}
 use lib.ListN.{length, set, replicate, length-replicate}
-use Rattle.base.specs.Loops.{fillAt, filled}
 use Rattle.base.proofs.Pick.{cond-elim}
-use Rattle.base.proofs.Turns.{turns-begin, turns-step, turns-keep, turns-each}
-use Rattle.base.proofs.Plane.{filled-begin, filled-step, filled-past, filled-at, filled-over, filled-cong}
+use Rattle.base.proofs.Turns.{turns-begin, turns-step, turns-each}
+use Rattle.base.proofs.Plane.{filled-begin, filled-step, filled-past, filled-at, filled-over, filled-cong, filled-replicate}
 use Rattle.windows.specs.Rectangles.{touches}
 use Rattle.windows.specs.Windows.{noPatch}
 use Rattle.windows.specs.Steps.{met, farthest, noTally, tallyOf, Tallies, tallies, tallyAt, talliesOf, noTallies}
@@ -83,16 +81,6 @@ module _ (f : ℕ → Tally) (s : Tallies) where
       (filled-cong (λ l. f l .least) (λ l. g l .least) k (s .least) (λ i l. ap (λ x. x .least) (e i l)))
 
 -- ---- before any patch
-
-set-replicate : {A : Type 0} (n i : ℕ) (v : A) → set (replicate n v) i v ≡ replicate n v
-set-replicate zero i v = refl
-set-replicate (suc n) zero v = refl
-set-replicate (suc n) (suc i) v = ap (λ l. v ∷ l) (set-replicate n i v)
-
-filled-replicate : {A : Type 0} (v : A) (n k : ℕ) → replicate n v ≡ filled (λ i. v) k (replicate n v)
-unfolding filled
-filled-replicate v n k =
-    sym (turns-keep (fillAt (λ i. v)) (replicate n v) (λ b. b ≡ replicate n v) refl (λ i b e. ap (λ z. set z i v) e ∙ set-replicate n i v) k)
 
 pub none-begun : (k : ℕ) → noTallies ≡ talliesOf (λ i. noTally) k noTallies
 none-begun k = tallies-same (filled-replicate _ 64 k) (filled-replicate _ 64 k) (filled-replicate _ 64 k) (filled-replicate _ 64 k)

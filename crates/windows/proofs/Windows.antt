@@ -116,7 +116,8 @@ module _ (t : ℕ → Rectangle) (r : Rectangle) where
 many-one : (P : ℕ → Type 0) (n a b : ℕ) → HowMany P n a → HowMany P n b → a ≡ b
 many-one P n a b p q = p .many ∙ total-same one (p .counts) (q .counts) n (λ j l. alike j (p .counted j l) (q .counted j l)) ∙ sym (q .many)
   where
-    alike : (j : ℕ) → ((p .counts j ≡ 1) × P j) ⊎ ((p .counts j ≡ 0) × (P j → ⊥)) → ((q .counts j ≡ 1) × P j) ⊎ ((q .counts j ≡ 0) × (P j → ⊥)) → p .counts j ≡ q .counts j
+    alike : (j : ℕ) → ((p .counts j ≡ 1) × P j) ⊎ ((p .counts j ≡ 0) × (P j → ⊥)) → ((q .counts j ≡ 1) × P j) ⊎ ((q .counts j ≡ 0) × (P j → ⊥))
+        → p .counts j ≡ q .counts j
     alike j (inl x) (inl y) = x .0 ∙ sym (y .0)
     alike j (inl x) (inr y) = absurd (y .1 (x .1))
     alike j (inr x) (inl y) = absurd (x .1 (y .1))
@@ -212,5 +213,6 @@ module _ (t : ℕ → Rectangle) (r : Rectangle) where
         let g : (j : ℕ) → j < n → Valid (t j) = λ j l. h j (omega arith) in
         let d : distance r (t n) < farthest = omega (arith, distance-most r (t n) s (h n (omega arith))) in
         let b = near-number n (a .nearest) d in
+        let early = first-before (λ j. Shares r (t j)) n (a .first) (first-is t r s n g) in
         ap (met r (t n) n) (tally-is n (omega arith) g)
-        ∙ tally-same {t = met r (t n) n (tallied a)} {u = tallied (windowStep t r n a)} refl (first-number n (a .first) (omega arith) (first-before (λ j. Shares r (t j)) n (a .first) (first-is t r s n g))) (b .0) (b .1)
+        ∙ tally-same {t = met r (t n) n (tallied a)} {u = tallied (windowStep t r n a)} refl (first-number n (a .first) (omega arith) early) (b .0) (b .1)

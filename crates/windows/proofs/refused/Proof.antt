@@ -36,7 +36,8 @@ returns-6 : tie.Need-returns-6
 returns-6 c =
     let s = c .before .before in
     let a = s .before .before .before .before .before .before .before .args in (
-      λ _. fitting (now (a .patches)) (a .n) (now (a .windows)) (a .k) (now (a .answers)) (s .before .before .before .if1 .left) (s .before .before .if2 .left) (s .before .if3 .left) (s .if4 .left)
+      λ _. fitting (now (a .patches)) (a .n) (now (a .windows)) (a .k) (now (a .answers)) (s .before .before .before .if1 .left)
+          (s .before .before .if2 .left) (s .before .if3 .left) (s .if4 .left)
           (sym (c .before .every-rectangle .ensures) ∙ not-false _ (c .if5 .left)),
       λ z. absurd (z refl),
     )

@@ -78,7 +78,8 @@ loop-again c =
     let k = c .before .before .before .before .before .before .before .before .loop in
     let a = c .before .before .before .before .before .before .before .before .before .before .args in
     let x = c .before .before .put-window in (
-      over-joined (numbersAt (now (a .counts)) (now (a .firsts)) (now (a .nearests))) 3 (λ i. refl) [] (now (a .answers)) (k .answers) (x .last .0) (3 * k .i) (k .i) (k .inv .0) (omega arith) (x .ensures),
+      over-joined (numbersAt (now (a .counts)) (now (a .firsts)) (now (a .nearests))) 3 (λ i. refl) [] (now (a .answers)) (k .answers) (x .last .0)
+          (3 * k .i) (k .i) (k .inv .0) (omega arith) (x .ensures),
       omega arith,
       same-len-mid (3 * k .i) (3 * k .i + 3 - 3 * k .i) (k .answers) (x .last .0) (x .kept .0) ∙ k .inv .2,
     )

@@ -11,6 +11,7 @@ use lib.ListN.{getD}
 use Rattle.base.proofs.Every.{every-begin, every-more, every-stops, every-end}
 use Rattle.windows.specs.Rectangles.{Valid, valid, boxAt, rectangleAt, everyBox}
 use Rattle.windows.specs.declared.Rectangle.{Rectangle}
+use Rattle.windows.specs.declared.tally.Tally.{Tally}
 use Rattle.windows.specs.Steps.{tallies, tallyAt, talliesOf, tallyOf, noTallies, met}
 use Rattle.windows.proofs.Touching.{valid-is}
 use Rattle.windows.proofs.Tallies.{tallies-at, tallies-cong, tallies-on, none-begun, none-long, tally-begin, tally-step, tally-few}
@@ -54,9 +55,10 @@ meet-all-requires c κs =
     let k = c .before .before .before .before .before .before .before .before .loop in
     let s = c .before .before .before .before .before .before .before .before .before .before .before in
     let p = s .pre in
+    let f : ℕ → Tally = λ i. tallyOf (boxAt (now (s .args .patches))) (k .j) (rectangleAt (now (s .args .windows)) i) in
     let few : (i : ℕ) → i < s .args .k → getD (k .counts) i 0 ≤ k .j =
     λ i l. subst (λ z. z ≤ k .j)
-    (sym (ap (λ x. tallyAt x i .count) (k .inv .0) ∙ ap (λ x. x .count) (tallies-at (λ l. tallyOf (boxAt (now (s .args .patches))) (k .j) (rectangleAt (now (s .args .windows)) l)) noTallies (s .args .k) (none-long _ (p .1)) i l)))
+    (sym (ap (λ x. tallyAt x i .count) (k .inv .0) ∙ ap (λ x. x .count) (tallies-at f noTallies (s .args .k) (none-long _ (p .1)) i l)))
     (tally-few _ _ (k .j)) in (
       p .1,
       p .2,
