@@ -20,13 +20,13 @@ use Rattle.windows.specs.declared.Window.{Window}
 abbrev pub TouchesIs : Type 0
 TouchesIs = (r b : Rectangle) → Valid r → Valid b → (touches r b ≡ true) ↔ Shares r b
 
--- the equation gives the answer by meaning
+-- [27.2, 27.3, 27.4] the equation gives the answer by meaning
 abbrev pub WindowIs : Type 0
 WindowIs =
     (t : ℕ → Rectangle) (n : ℕ) (r : Rectangle) → Valid r → ((j : ℕ) → j < n → Valid (t j))
     → WindowOf t n r (windowOf t n r)
 
--- .. and there is one only: no two builds that keep the promise differ
+-- [27.2, 27.3, 27.4] .. and there is one only: no two builds that keep the promise differ
 abbrev pub OneWindow : Type 0
 OneWindow = (t : ℕ → Rectangle) (n : ℕ) (r : Rectangle) (a b : Window) → WindowOf t n r a → WindowOf t n r b → a ≡ b
 

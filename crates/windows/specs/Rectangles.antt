@@ -10,7 +10,7 @@ use Rattle.windows.specs.declared.Rectangle.{Rectangle}
 
 -- ---- in the lists
 
--- a rectangle handed in is four numbers: x0, y0, x1, y1
+-- [27.1] a rectangle handed in is four numbers: x0, y0, x1, y1
 abbrev pub rectangleLength : ℕ
 rectangleLength = 4
 
@@ -19,7 +19,7 @@ rectangleAt l i =
     let p = rectangleLength * i in
     record { x0 = getD l p 0; y0 = getD l (p + 1) 0; x1 = getD l (p + 2) 0; y1 = getD l (p + 3) 0 }
 
--- the box of patch j
+-- [7.3, 27.2] the box of patch j of a list
 unfoldable pub boxAt : List ℕ → ℕ → Rectangle
 boxAt l j =
     let b = patchAt l j in

@@ -21,18 +21,18 @@ mostWindows = 64
 
 -- ---- by meaning, over the first n patches of a list
 
--- m of the numbers below n have P: each that has it counts one, the others nothing
+-- [27.2] "how many": m of the numbers below n have P; each that has it counts one, the others nothing
 pub record HowMany (P : ℕ → Type 0) (n m : ℕ) : Type 0 where
   pub counts : ℕ → ℕ
   pub counted : (j : ℕ) → j < n → ((counts j ≡ 1) × P j) ⊎ ((counts j ≡ 0) × (P j → ⊥))
   pub many : m ≡ total one counts n
 
--- the first below n that has P, or nothing where none has
+-- [27.3] "the first .. in list order": the first below n that has P, or nothing where none has
 abbrev pub FirstWith : (ℕ → Type 0) → ℕ → Patch → Type 0
 FirstWith P n Nothing = (j : ℕ) → j < n → P j → ⊥
 FirstWith P n (At j) = (j < n) × P j × ((i : ℕ) → i < j → P i → ⊥)
 
--- the one below n where d is least, the earlier of equals; nothing where there is none at all
+-- [27.4] "nearest .., the earlier of equals": the one below n where d is least; nothing where there is none at all
 abbrev pub LeastOf : (ℕ → ℕ) → ℕ → Patch → Type 0
 LeastOf d n Nothing = n ≡ 0
 LeastOf d n (At j) = (j < n) × ((i : ℕ) → i < n → d j ≤ d i) × ((i : ℕ) → i < j → d j < d i)
@@ -58,6 +58,7 @@ unfoldable pub nearestMet : (ℕ → Rectangle) → Rectangle → ℕ → Patch 
 nearestMet t r j Nothing = At j
 nearestMet t r j (At i) = cond (ltb (distance r (t j)) (distance r (t i))) (At j) (At i)
 
+-- the answer over the patches before j, once patch j is looked at too
 abbrev pub windowStep : (ℕ → Rectangle) → Rectangle → ℕ → Window → Window
 windowStep t r j a =
     record {
@@ -76,7 +77,7 @@ windowOf t n r = turns n (windowStep t r) noWindow
 
 -- ---- in numbers
 
--- stands for no patch: the greatest number of 64 bits, which no place in a list reaches
+-- [27.8] "no patch": the greatest number of 64 bits, which no place in a list reaches
 abbrev pub noPatch : ℕ
 noPatch = 2 ^ 64 - 1
 
@@ -89,7 +90,7 @@ patchNumber Nothing = noPatch
 unfoldable pub patchOf : ℕ → Patch
 patchOf v = cond (eqb v noPatch) Nothing (At v)
 
--- an answer is three numbers
+-- [27.2, 27.3, 27.4] an answer is three numbers: how many, the first, the nearest
 abbrev pub windowLength : ℕ
 windowLength = 3
 

@@ -4,12 +4,12 @@
 //
 // stdin is the capture's bytes. stdout has the answers' words, one a line, in hexadecimal: each call's refusal number, and
 // then what it wrote; of luma, which is never refused, the pattern. Of the areas some entries are printed, of bytes every
-// sixteenth word of eight, of the candidate page, the book of fits, the checkerboard and the answers for rectangles all. The
-// number of waiting pixels is the most that the original's stack held, by `vectors::patches`. The smallest lengths are those of
-// docs/REQUIREMENTS.md, 3.1. The original has no candidate page: its text is made here, from the original's candidates. Nor has it a book of fits,
-// whose bytes are made here by to_le_bytes, a checkerboard, which is a formula here, or rectangles over a patch list, whose
-// answers are worked out at their place. Pixels beyond the picture's edge are counted here, by its `map` and `vectors::inside`,
-// and the outlines of patches by `vectors::patches`.
+// sixteenth word of eight, of the candidate page, the book of fits, the checkerboard and the answers for rectangles all.
+// The number of waiting pixels is the most that the original's stack held, by `vectors::patches`. The smallest lengths are
+// those of docs/REQUIREMENTS.md, 3.1. The original has no candidate page: its text is made here, from the original's
+// candidates. Nor has it a book of fits, whose bytes are made here by to_le_bytes, a checkerboard, which is a formula here,
+// or rectangles over a patch list, whose answers are worked out at their place. Pixels beyond the picture's edge are
+// counted here, by its `map` and `vectors::inside`, and the outlines of patches by `vectors::patches`.
 use lpcorepub::frame::FrameSpec;
 use lpcorepub::geometry::{
     adaptive_black_mask, bilinear, detect_fiducials, fiducial_candidates, fit_for, fit_geometry, grid_score, luma_plane, margin_for,
