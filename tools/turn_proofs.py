@@ -67,6 +67,39 @@ def blocks(text):
     return head, out
 
 
+def open_modules(text):
+    """Each module over a step of the code as definitions that take the step."""
+    out, lines, i = [], text.split("\n"), 0
+    while i < len(lines):
+        m = re.match(r"module _ \((\w+) : (tie\.[^()]*)\) where$", lines[i])
+        if not m:
+            out.append(lines[i])
+            i += 1
+            continue
+        var, typ = m.groups()
+        i += 1
+        inner = []
+        while i < len(lines) and (not lines[i].strip() or lines[i].startswith("  ")):
+            inner.append(lines[i][2:])
+            i += 1
+        names = [mm.group(2) for mm in map(START.match, inner) if mm]
+        done = []
+        for line in inner:
+            mm = START.match(line)
+            if mm:
+                done.append(f"{mm.group(1)}{mm.group(2)} : ({var} : {typ}) →" + line[mm.end():])
+                continue
+            lead = next((n for n in names if line.startswith(n + " ") or line.startswith(n + "=")), None)
+            head = ""
+            if lead:
+                head, line = lead + " " + var, line[len(lead):]
+            for n in names:
+                line = re.sub(r"(?<![\w.'-])" + re.escape(n) + r"(?![\w'-])", f"({n} {var})", line)
+            done.append(head + line)
+        out += done
+    return "\n".join(out)
+
+
 class Turn:
     def __init__(self, entry):
         self.e = entry
@@ -101,7 +134,10 @@ class Turn:
         """The name for .1.1.0 of nested pairs."""
         m = re.match(r"((?:\.1)*)(\.0)?", tail)
         k = len(m.group(1)) // 2
-        if m.group(2):
+        if word in ("requires", "ensures") and k >= len(names) - 1:
+            k = len(names) - 1
+            used = ".1" * k
+        elif m.group(2):
             used = m.group(0)
         else:
             used = m.group(1)
@@ -123,6 +159,8 @@ class Turn:
                 return head + "." + new + text[len("." + old + "." + path):]
         if rest:
             first = hyphens(rest[0])
+            if first not in self.steps and first.lower() in self.steps:
+                first = first.lower()
             if here and first in self.typed and len(rest) > 1 and rest[1] == "given":
                 return head + ".type_inv." + self.typed[first] + ("." + ".".join(rest[2:]) if rest[2:] else "")
             if here and rest[0] == "pre":
@@ -176,6 +214,7 @@ class Turn:
                 vars_[m.group(1)] = chain[1]
         text = token.sub(one, text)
         text = text.replace(".well-formed", ".well_formed")
+        text = re.sub(r"(?<![\w.'-])(c\.if-not-[\w'-]+\.(?:true|false))(?![\w'-])", r"(ap not \1)", text)
         while True:
             m = re.search(r"let (" + NAME + r") = (c) in\s*", text)
             if not m:
@@ -203,21 +242,25 @@ def invariant_body(entry, name, head_args, body):
         return None, None
     new = pair[1]
     args = head_args.split()
+    words = set(re.findall(NAME, body)) | set(args)
+    l = next(v for v in ("l", "v", "s", "z", "at") if v not in words or v in args)
+    if l in args and re.search(r"(λ|\() ?" + l + r"\b", body):
+        l = "at"
     want = len(variables) + sum(changed)
     if len(args) != want:
         return new, None
     sub = {}
     for v, c, a in zip(variables, changed, args):
-        sub[a] = "l.initial." + v if c else "l." + v
+        sub[a] = l + ".initial." + v if c else l + "." + v
     rest = args[len(variables):]
     for v, a in zip([v for v, c in zip(variables, changed) if c], rest):
-        sub[a] = "l." + v
+        sub[a] = l + "." + v
     sub.pop("_", None)
 
     def one(m):
         return sub.get(m.group(0), m.group(0))
     body = re.sub(r"(?<![\w.'-])" + NAME + r"(?![\w'-])", one, body)
-    return new, body
+    return new + " " + l, body
 
 
 def record_of(body, fields):
@@ -256,7 +299,7 @@ def split_clause(text, name):
 
 
 def turn(path, entry, crate, fn):
-    text = open(path, encoding="utf-8").read()
+    text = open_modules(open(path, encoding="utf-8").read())
     head, parts = blocks(text)
     spec = next((b for b in parts if "tie.close" in "\n".join(b["lines"]) or "tie.spec" in "\n".join(b["lines"])), None)
     if spec is None:
@@ -343,7 +386,8 @@ def turn(path, entry, crate, fn):
             if body is None:
                 return "the parameters of an invariant do not fit: " + b["name"]
             body = renamed(body)
-            invs.append("\n".join(comment + [f"abbrev pub {what}-{new} : goal.{what}-{new}\n{unf}{what}-{new} l ={body}"]))
+            new, l = new.split(" ")
+            invs.append("\n".join(comment + [f"abbrev pub {what}-{new} : goal.{what}-{new}\n{unf}{what}-{new} {l} ={body}"]))
         elif kind == "raw":
             answers.append(("raw", "", comment, "", renamed(t.body(types(text), places)), None))
         elif kind == "need":

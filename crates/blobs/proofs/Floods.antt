@@ -87,6 +87,7 @@ progress_start {m} {w} {a} {s} g =
 
     alone : (q : ℕ) → Waits q (a ∷ []) → Joined m w a q
     alone q (newest e) = subst (Joined m w a) (sym e) (here g.dark)
+    alone q (older x3) = elim x3 [ ]
 
 -- ---- a turn: the newest pixel p is taken, counted, and its neighbours are visited
 boxed_more : {w : ℕ} (b : Blob) (p s q : ℕ) → Boxed w b q → Boxed w (grow b (p % w) (p / w) s) q

@@ -1,0 +1,13 @@
+-- `book::records::floats` meets its contract. The loop's invariant: the first i floats are made. Assumes nothing.
+use Rattle.base.specs.Loops.{filled}
+use lib.Ieee.{binary64, of_bits}
+use Prim.Native.Nat.{◌≤◌, ◌-◌}
+use mathlib.Core.Path.{◌≡◌}
+use lib.ListN.{get_or}
+use Rattle.book.proofs.records.floats.Given as goal
+
+abbrev pub invariant-loop-i : goal.invariant-loop-i
+invariant-loop-i at = (at.l ≡ filled (λ k. of_bits binary64 (get_or at.patterns k 0)) at.i at.initial.l) × (at.i ≤ 13)
+
+abbrev pub decreases-loop-i : goal.decreases-loop-i
+decreases-loop-i l = 13 - l.i

@@ -1,0 +1,27 @@
+-- `book::tests::keys_rise_in` meets its contract. The loop's invariant: the test holds for all before j. Assumes nothing.
+use Rattle.book.specs.Promises.{keys_rise}
+use Rattle.base.proofs.Every.{every_begin, every_more, every_stops, every_end}
+use borrow.Author.Tests.{not-true, not-false}
+use mathlib.Core.Bool.{true}
+use native.Mathlib.Omega.{arith}
+use Prim.Native.Nat.{◌-◌}
+use mathlib.Core.Path.{sym, ◌∙◌}
+use Rattle.book.proofs.tests.keys_rise_in.Goals as goal
+
+pub loop-j-init : goal.loop-j-init
+loop-j-init c = (every_begin _, omega arith)
+
+pub returns-then-not-rises_in : goal.returns-then-not-rises_in
+unfolding keys_rise
+returns-then-not-rises_in c =
+    let l = c.loop-j in
+    sym (every_stops _ l.j _ (omega arith) (sym c.rises_in.ensures ∙ not-true _ (ap not c.if-not-rises_in.true)))
+
+pub loop-j-preserved : goal.loop-j-preserved
+loop-j-preserved c =
+    let l = c.loop-j in
+    (every_more _ l.j l.invariant.0 (sym c.rises_in.ensures ∙ not-false _ (ap not c.if-not-rises_in.false)), omega arith)
+
+pub returns : goal.returns
+unfolding keys_rise
+returns c = let l = c.loop-j in sym (every_end _ l.j _ l.invariant.0 (omega arith))

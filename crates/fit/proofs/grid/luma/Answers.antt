@@ -1,0 +1,9 @@
+-- `fit::grid::luma` meets its contract. Assumes nothing.
+use lib.Ieee.{of_bits, round}
+use Rattle.float.specs.Floats.{d64}
+use mathlib.Core.Path.{refl}
+use Rattle.fit.proofs.grid.luma.Goals as goal
+
+pub returns : goal.returns
+unfolding d64 of_bits round
+returns c = refl

@@ -1,0 +1,18 @@
+-- `merge::walk::pass` meets its contract. Assumes nothing.
+use mathlib.Core.Path.{sym, ap}
+use Rattle.merge.specs.Steps.{passed}
+use Prim.Native.Nat.{◌-◌}
+use mathlib.Core.Path.{sym, ap}
+use Rattle.merge.proofs.walk.pass.Goals as goal
+
+pub returns-in-First : goal.returns-in-First
+unfolding passed
+returns-in-First c = sym (ap (passed _) c.enum_told-1.given.1)
+
+pub returns-in-Second : goal.returns-in-Second
+unfolding passed
+returns-in-Second c = sym (ap (passed _) c.in-Second.is)
+
+pub returns-in-Both : goal.returns-in-Both
+unfolding passed
+returns-in-Both c = sym (ap (passed _) c.in-Both.is)

@@ -1,0 +1,7 @@
+-- `sampling::internal::sample` meets its contract. Assumes nothing.
+use Rattle.sampling.specs.Reading.{sample_at}
+use Rattle.sampling.proofs.internal.sample.Goals as goal
+
+pub returns : goal.returns
+unfolding sample_at
+returns c = λ i. record { colour = c.reading-colour.ensures i; inside = c.inside-within.ensures i }

@@ -1,0 +1,15 @@
+-- `tablet::matrices::answer` meets its contract. Assumes nothing.
+use Rattle.tablet.proofs.Laws.{answered_refused}
+use Rattle.tablet.specs.Slices.{answered}
+use mathlib.Core.Path.{sym, ◌∙◌}
+use Rattle.tablet.proofs.matrices.answer.Goals as goal
+
+pub returns-then-n-ne0 : goal.returns-then-n-ne0
+returns-then-n-ne0 c = (c.number_of_lem.ensures, answered_refused _ _ c.if-n-ne0.true)
+
+pub returns : goal.returns
+unfolding answered
+returns c = (
+  sym c.if-n-ne0.false ∙ c.number_of_lem.ensures,
+  c.store_matrix.ensures,
+)
