@@ -2,6 +2,8 @@
 // checkerboard, the mask of that size with most patches, as lines of `#` and `.`, or `refused 2`
 // (requirements, 22.5 to 22.8). Only this function reads and prints; what comes between is
 // `checkerboard_text::internal::answer`.
+#![tactic(auto)]
+
 fn main() {
     let mut input = [0u8; checkerboard_text::internal::INPUT_LENGTH];
     let n = io::read_full(0, &mut input);

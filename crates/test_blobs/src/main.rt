@@ -1,6 +1,8 @@
 // Labels each mask of standard input, and prints a line for it: width, height, how many patches it
 // has, and the most pixels that waited. The expected output is the original's, with its own stack
 // counted: host/vectors/src/bin/blobs.rs says what stdin holds, and how to make both again.
+#![tactic(auto)]
+
 ghost use Rattle.std.specs.Prelude.{◌≤◌};
 
 use base::min;

@@ -1,6 +1,8 @@
 // Runs the book of fits on outside vectors: each call of stdin is made, and its answer and all that
 // its areas then hold are printed, a long area by its ends and a checksum.
 // host/vectors/book.py says what stdin and stdout hold, and how to make them again.
+#![tactic(auto)]
+
 mod print; // print.rt: answers and areas on lines
 
 use base::min;

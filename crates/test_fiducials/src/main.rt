@@ -1,6 +1,8 @@
 // What `fiducial_candidates` and `detect_fiducials` find in drawn pictures, printed. The expected
 // output is the original's: host/vectors/src/bin/fiducials.rs says what stdin holds and what is
 // printed, and how to make both again.
+#![tactic(auto)]
+
 ghost use Rattle.std.specs.Prelude.{◌≡◌, ◌+◌, ◌*◌, ◌≤◌, ◌<◌, length};
 
 use base::min;

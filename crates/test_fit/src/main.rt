@@ -1,5 +1,7 @@
 // Runs fit_for and grid_score on outside vectors, the original's own answers:
 // host/vectors/src/bin/fit.rs says what stdin and stdout hold, and how to make them again.
+#![tactic(auto)]
+
 ghost use Rattle.std.specs.Prelude.{◌+◌, ◌≤◌, length};
 
 use fit::{Fitted, GeometryFit, Grade, GridScore};

@@ -1,5 +1,7 @@
 // Runs fit_geometry on outside vectors, the original's own answers: host/vectors/src/bin/fit.rs
 // says what stdin and stdout hold, and how to make them again.
+#![tactic(auto)]
+
 use base::min;
 use fiducials::Places;
 use fit::{GeometryFit, Grade};

@@ -2,6 +2,8 @@
 // own answers: host/vectors/src/bin/float.rs says what stdin holds, and how to make it again. For
 // each helper its name and number of vectors are printed; at the first difference the program
 // prints which vector, the arguments, the answer and what it should be, and stops.
+#![tactic(auto)]
+
 ghost use Rattle.std.specs.Prelude.{◌≤◌};
 
 const HELPERS: usize = 10;
@@ -36,7 +38,7 @@ fn compare_all(b: &[u8]) {
 }
 
 // How many vectors agree, and the word where the next one starts.
-#[derive(Drop)]
+#[derive(Clone, Copy)]
 struct Run {
     agree: u64,
     at: usize,

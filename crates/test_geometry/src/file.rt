@@ -6,7 +6,7 @@ ghost use Rattle.test_geometry.specs.Files.{HeadedBy};
 use frame::FrameSpec;
 
 // What the words say, with the number of pixels of the capture and of bytes of the canonical image.
-#[derive(Drop)]
+#[derive(Clone, Copy)]
 pub struct Sizes {
     pub w: usize,
     pub h: usize,

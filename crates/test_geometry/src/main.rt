@@ -13,6 +13,8 @@
 //   61 to 64  accepted, near the end of the lens terms' range: 61 different terms tried, with k =
 //             0.20 kept; 67; 68; 77, of which the second stage alone repeats one
 // After 16 the rest of the block is the answer of `fit_geometry`, which takes such a capture.
+#![tactic(auto)]
+
 mod file; // file.rt: a capture file
 mod print; // print.rt: an answer's lines
 

@@ -1,5 +1,7 @@
 // Runs the functions of homography on outside vectors, the original's own answers:
 // host/vectors/src/bin/homography.rs says what stdin and stdout hold, and how to make them again.
+#![tactic(auto)]
+
 ghost use Rattle.std.specs.Prelude.{◌<◌};
 
 use frame::{Point, Quad, Verdict};

@@ -1,6 +1,8 @@
 // Runs the frame's and the markers' functions on the entries of its input, nine 64-bit words each
 // (what to run, a picture's width, height and length, a frame's four numbers, a row), and prints
 // what they answer. The expected output is the original's (host/vectors, markers).
+#![tactic(auto)]
+
 ghost use Rattle.std.specs.Prelude.{◌≡◌, ◌*◌, ◌<◌, ◌≤◌, length};
 
 use frame::{FrameSpec, Framed, Number, Point, Quad, Rgb, Verdict};

@@ -1,6 +1,8 @@
 // The planes of a picture of 40 by 36 under the frame 192, 192, 1, 48, printed. The expected output
 // is the original's: host/vectors/src/bin/mask.rs says what stdin holds, and how to make both
 // again.
+#![tactic(auto)]
+
 ghost use Rattle.std.specs.Prelude.{◌≤◌, ◌≡◌, length};
 
 use frame::FrameSpec;

@@ -1,6 +1,8 @@
 // Joins books of fits on outside vectors: each call of stdin is made, and its answer and all that
 // the target then holds are printed, a long target by its ends and a checksum.
 // host/vectors/merge.py says what stdin and stdout hold, and how to make them again.
+#![tactic(auto)]
+
 mod print; // print.rt: answers and the target on lines
 
 use base::min;

@@ -1,6 +1,8 @@
 // Answers each input of stdin as the program `most_patches` answers its standard input, by the same
 // function, and has what it prints read as the program `patches` reads it.
 // host/vectors/most_patches.py says what stdin and stdout hold, and how to make them again.
+#![tactic(auto)]
+
 ghost use Rattle.std.specs.Prelude.{◌≡◌, ℕ, min, length, get_or};
 ghost use Rattle.base.specs.Loops.{filled};
 

@@ -1,6 +1,8 @@
 // Runs the candidate page on outside vectors: each call of stdin is made on a page of tildes, and
 // its number and all of the page are printed, a long page by its ends and a checksum.
 // host/vectors/page.py says what stdin and stdout hold, and how to make them again.
+#![tactic(auto)]
+
 mod print; // print.rt: an answer's lines
 
 ghost use Rattle.std.specs.Prelude.{◌≡◌};

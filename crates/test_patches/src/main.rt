@@ -1,6 +1,8 @@
 // Answers each file of data/, in the order of `args`, as the program `patches` answers its standard
 // input: by the same buffers and the same function. host/vectors/src/bin/patches.rs makes the
 // files, and the expected output from the original's own answers and a count of outlines of its own.
+#![tactic(auto)]
+
 fn main() {
     let count = os::arg_count();
     answer_all(count);

@@ -1,5 +1,7 @@
 // Runs the functions of radial on outside vectors, the original's own answers:
 // host/vectors/src/bin/radial.rs says what stdin and stdout hold, and how to make them again.
+#![tactic(auto)]
+
 use frame::Point;
 use radial::{Lens, Radial};
 

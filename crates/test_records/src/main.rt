@@ -3,6 +3,8 @@
 // candidates of a capture of 64 by 64 as with the patches. stdin: the mask's nine bytes, the
 // picture's 27 and the capture's 12,288. The expected output is the original's (host/vectors,
 // forms).
+#![tactic(auto)]
+
 ghost use Rattle.std.specs.Prelude.{◌≡◌, ◌+◌, ◌*◌, ◌≤◌, ◌<◌, length, replicate, set};
 ghost use Rattle.base.specs.Loops.{filled};
 ghost use Rattle.blobs.specs.Patches.{record_length, patch_at};

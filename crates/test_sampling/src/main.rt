@@ -2,6 +2,8 @@
 // with 1 behind it where its position is inside the picture, else 0, and each luma's pattern as
 // eight. The expected output is the original's: host/vectors/src/bin/sampling.rs says what stdin
 // holds, and how to make both again.
+#![tactic(auto)]
+
 use sampling::Colour;
 
 // The picture is 5 by 4, in 60 bytes; the places follow from this word on,

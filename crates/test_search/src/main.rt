@@ -1,5 +1,7 @@
 // Runs the lens search on outside vectors, over four points that are handed in:
 // host/vectors/src/bin/search.rs says what stdin and stdout hold, and how to make them again.
+#![tactic(auto)]
+
 ghost use Rattle.std.specs.Prelude.{◌+◌, ◌≤◌};
 
 use base::min;

@@ -3,6 +3,8 @@
 // changed places still keeps its promises, and is caught here. The expected output is the
 // original's: host/vectors/src/bin/tablet.rs says what stdin and stdout hold, and how to make them
 // again.
+#![tactic(auto)]
+
 mod looks; // looks.rt: the functions that look at the whole capture
 mod print; // print.rt: words on lines
 

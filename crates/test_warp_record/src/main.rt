@@ -2,6 +2,8 @@
 // answer and all that the canonical image then holds are printed. The expected output is the
 // original's `warp_with`, of the records' thirteen numbers: host/vectors/src/bin/warp_record.rs says
 // what stdin and stdout hold, and how to make them again.
+#![tactic(auto)]
+
 use base::min;
 use book::FitRecord;
 use frame::{FrameSpec, Number};

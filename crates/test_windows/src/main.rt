@@ -4,6 +4,8 @@
 // many entries of the answer area behind the answers still are 9. The expected output comes from
 // host/vectors/src/bin/windows.rs, which says what stdin holds. Areas are not cleared between two
 // questions, but for the answers.
+#![tactic(auto)]
+
 mod print; // print.rt: an answer's lines
 
 ghost use Rattle.std.specs.Prelude.{◌≤◌};

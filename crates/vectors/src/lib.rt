@@ -1,5 +1,7 @@
 // What the test programs share: 64-bit words read from a buffer, floats by their bit patterns, a
 // word as a line of text, and checksums. A pattern is IEEE 754's; all NaNs are written as one.
+#![tactic(auto)]
+
 pub mod sum; // sum.rt: checksums
 
 ghost use Rattle.std.specs.Prelude.{◌≡◌};
