@@ -1,4 +1,4 @@
-// Finds libtablet.a: in TABLET_LIB, or where `rt staticlib tablet` writes it.
+// Finds libtablet.a: in TABLET_LIB, or where host/build puts it.
 use std::env;
 use std::path::PathBuf;
 

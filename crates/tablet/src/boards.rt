@@ -5,8 +5,7 @@ ghost use Rattle.checkerboard.specs.Promises.{Drawing};
 use super::answers::number_of;
 
 // Draws the checkerboard of w by h pixels at the start of `mask`.
-#[unsafe(no_mangle)]
-pub extern "C" fn tablet_checkerboard(w: usize, h: usize, mask: &mut [u8]) -> u32
+pub fn tablet_checkerboard(w: usize, h: usize, mask: &mut [u8]) -> u32
     ensures { Drawing w h mask.old mask.new (verdict_of result) }
 {
     let v = checkerboard::checkerboard(w, h, mask);

@@ -8,8 +8,7 @@ ghost use Rattle.merge.specs.Promises.{Merging};
 use super::answers::count_number;
 
 // Reads a book of fits into two lists. The count of an accepted one is (book.len() - 16) / 120.
-#[unsafe(no_mangle)]
-pub extern "C" fn tablet_read_book(book: &[u8], heads: &mut [u32], numbers: &mut [u64]) -> u32
+pub fn tablet_read_book(book: &[u8], heads: &mut [u32], numbers: &mut [u64]) -> u32
     ensures { Reading book.now heads.old numbers.old heads.new
         numbers.new (number_as result (count_in book.now)) }
 {
@@ -18,13 +17,7 @@ pub extern "C" fn tablet_read_book(book: &[u8], heads: &mut [u32], numbers: &mut
 }
 
 // Writes the first `count` records of two lists as a book of 16 + 120 * count bytes.
-#[unsafe(no_mangle)]
-pub extern "C" fn tablet_write_book(
-    heads: &[u32],
-    numbers: &[u64],
-    count: usize,
-    book: &mut [u8],
-) -> u32
+pub fn tablet_write_book(heads: &[u32], numbers: &[u64], count: usize, book: &mut [u8]) -> u32
     ensures { Writing heads.now numbers.now count book.old
         book.new (number_as result (book_length count)) }
 {
@@ -33,8 +26,7 @@ pub extern "C" fn tablet_write_book(
 }
 
 // Joins two books. The joined book's length is the fourth number of its header.
-#[unsafe(no_mangle)]
-pub extern "C" fn tablet_merge_books(first: &[u8], second: &[u8], target: &mut [u8]) -> u32
+pub fn tablet_merge_books(first: &[u8], second: &[u8], target: &mut [u8]) -> u32
     ensures { Merging first.now second.now target.old target.new
         (number_as result (book_length (size first.now second.now))) }
 {

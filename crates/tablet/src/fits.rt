@@ -14,8 +14,7 @@ use fit::internal::{grade_number, score_of};
 use frame::FrameSpec;
 
 // The fit for a lens term over four observed points.
-#[unsafe(no_mangle)]
-pub extern "C" fn tablet_fit_for(
+pub fn tablet_fit_for(
     w: usize,
     h: usize,
     width: usize,
@@ -52,8 +51,7 @@ pub extern "C" fn tablet_fit_for(
 }
 
 // How well a fit of 13 numbers explains the cell grid.
-#[unsafe(no_mangle)]
-pub extern "C" fn tablet_grid_score(
+pub fn tablet_grid_score(
     capture: &[u8],
     w: usize,
     h: usize,

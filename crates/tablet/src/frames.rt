@@ -16,8 +16,7 @@ use frame::FrameSpec;
 use frame::internal::{frame_outside, sides_wrong};
 
 // Every smallest length for a capture of w by h and a frame: the same that refusal 3 tests.
-#[unsafe(no_mangle)]
-pub extern "C" fn tablet_lengths(
+pub fn tablet_lengths(
     w: usize,
     h: usize,
     width: usize,
@@ -66,8 +65,7 @@ pub extern "C" fn tablet_lengths(
 }
 
 // Cells in a row, and in a column.
-#[unsafe(no_mangle)]
-pub extern "C" fn tablet_grid(
+pub fn tablet_grid(
     width: usize,
     height: usize,
     cell: usize,
@@ -98,8 +96,7 @@ pub extern "C" fn tablet_grid(
 }
 
 // Marker side, quiet zone and the margin for a cell.
-#[unsafe(no_mangle)]
-pub extern "C" fn tablet_marker_numbers(cell: usize, numbers: &mut [u64]) -> u32
+pub fn tablet_marker_numbers(cell: usize, numbers: &mut [u64]) -> u32
     ensures { Answer (marker_tests cell numbers.old) (marker_size cell ∷ quiet_zone cell ∷ margin_for
         cell ∷ []) numbers.old result numbers.new }
 {
@@ -121,8 +118,7 @@ pub extern "C" fn tablet_marker_numbers(cell: usize, numbers: &mut [u64]) -> u32
 }
 
 // Canonical centres of the four markers.
-#[unsafe(no_mangle)]
-pub extern "C" fn tablet_marker_centers(
+pub fn tablet_marker_centers(
     width: usize,
     height: usize,
     cell: usize,
@@ -153,8 +149,7 @@ pub extern "C" fn tablet_marker_centers(
 }
 
 // Draws the four markers into a picture of w by h pixels.
-#[unsafe(no_mangle)]
-pub extern "C" fn tablet_stamp_fiducials(
+pub fn tablet_stamp_fiducials(
     image: &mut [u8],
     w: usize,
     h: usize,

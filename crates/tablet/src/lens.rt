@@ -11,8 +11,7 @@ use frame::Point;
 use radial::Radial;
 
 // The lens of a capture of w by h with the term k.
-#[unsafe(no_mangle)]
-pub extern "C" fn tablet_radial(w: usize, h: usize, k: f64, lens: &mut [f64]) -> u32
+pub fn tablet_radial(w: usize, h: usize, k: f64, lens: &mut [f64]) -> u32
     ensures { Answer (lens_tests w h lens.old) (lens_numbers (model.radial w h k))
         lens.old result lens.new }
 {
@@ -30,8 +29,7 @@ pub extern "C" fn tablet_radial(w: usize, h: usize, k: f64, lens: &mut [f64]) ->
 }
 
 // Pinhole point to observed point.
-#[unsafe(no_mangle)]
-pub extern "C" fn tablet_distort(lens: &[f64], x: f64, y: f64, point: &mut [f64]) -> u32
+pub fn tablet_distort(lens: &[f64], x: f64, y: f64, point: &mut [f64]) -> u32
     ensures { Answer (move_tests 4 lens.now point.old) (point_numbers (model.distort
         (lens_of lens.now) (record { x = x; y = y }))) point.old result point.new }
 {
@@ -45,8 +43,7 @@ pub extern "C" fn tablet_distort(lens: &[f64], x: f64, y: f64, point: &mut [f64]
 }
 
 // Observed point to pinhole point.
-#[unsafe(no_mangle)]
-pub extern "C" fn tablet_undistort(lens: &[f64], x: f64, y: f64, point: &mut [f64]) -> u32
+pub fn tablet_undistort(lens: &[f64], x: f64, y: f64, point: &mut [f64]) -> u32
     ensures { Answer (move_tests 4 lens.now point.old) (point_numbers (model.undistort
         (lens_of lens.now) (record { x = x; y = y }))) point.old result point.new }
 {

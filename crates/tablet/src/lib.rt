@@ -1,5 +1,5 @@
-// The library for the tablet: every public function of the port for C and Rust
-// (host/include/tablet.h).
+// The library for the tablet: every public function of the port over lent slices of numbers. The
+// crate tablet_c exports each for C (host/include/tablet.h).
 //
 // A function's own result is the refusal number (requirements, 2), 0 where it accepts, but for
 // `tablet_luma`, which refuses nothing and gives the luma. The number is the lowest that applies,
@@ -24,7 +24,7 @@ mod rectangles;
 mod slices;
 mod whole;
 
-// For the program test_tablet, which calls each by position.
+// For the crate tablet_c, and for the program test_tablet, which calls each by position.
 pub use boards::tablet_checkerboard;
 pub use books::{tablet_merge_books, tablet_read_book, tablet_write_book};
 pub use fits::{tablet_fit_for, tablet_grid_score};

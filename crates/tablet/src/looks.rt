@@ -66,8 +66,7 @@ fn answer_detected(a: Detected, counts: &mut [u64], points: &mut [f64]) -> u32
 }
 
 // Every bullseye-shaped patch in the picture.
-#[unsafe(no_mangle)]
-pub extern "C" fn tablet_fiducial_candidates(
+pub fn tablet_fiducial_candidates(
     capture: &[u8],
     w: usize,
     h: usize,
@@ -108,8 +107,7 @@ pub extern "C" fn tablet_fiducial_candidates(
 }
 
 // The four fiducials, in the order TL, TR, BR, BL.
-#[unsafe(no_mangle)]
-pub extern "C" fn tablet_detect_fiducials(
+pub fn tablet_detect_fiducials(
     capture: &[u8],
     w: usize,
     h: usize,

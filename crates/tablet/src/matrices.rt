@@ -14,8 +14,7 @@ use frame::Point;
 use homography::{Homography, Solved};
 
 // The matrix product a b.
-#[unsafe(no_mangle)]
-pub extern "C" fn tablet_mat3_mul(a: &[f64], b: &[f64], res: &mut [f64]) -> u32
+pub fn tablet_mat3_mul(a: &[f64], b: &[f64], res: &mut [f64]) -> u32
     ensures { Answer (product_tests a.now b.now res.old) (matrix_numbers
         (mat.mat3_mul (matrix_of a.now).m (matrix_of b.now).m)) res.old result
         res.new }
@@ -31,8 +30,7 @@ pub extern "C" fn tablet_mat3_mul(a: &[f64], b: &[f64], res: &mut [f64]) -> u32
 }
 
 // Where a matrix takes a point.
-#[unsafe(no_mangle)]
-pub extern "C" fn tablet_apply(matrix: &[f64], x: f64, y: f64, point: &mut [f64]) -> u32
+pub fn tablet_apply(matrix: &[f64], x: f64, y: f64, point: &mut [f64]) -> u32
     ensures { Answer (move_tests 9 matrix.now point.old) (point_numbers
         (mat.apply (matrix_of matrix.now) (record { x = x; y = y }))) point.old result
         point.new }
@@ -64,8 +62,7 @@ fn answer(s: Solved, res: &mut [f64]) -> u32
 }
 
 // The inverse of a matrix.
-#[unsafe(no_mangle)]
-pub extern "C" fn tablet_inverse(matrix: &[f64], res: &mut [f64]) -> u32
+pub fn tablet_inverse(matrix: &[f64], res: &mut [f64]) -> u32
     ensures { Answer (inverse_tests matrix.now res.old) (matrix_numbers
         (mat.inverse (matrix_of matrix.now)).h.m) res.old result res.new }
 {
@@ -78,8 +75,7 @@ pub extern "C" fn tablet_inverse(matrix: &[f64], res: &mut [f64]) -> u32
 }
 
 // The homography that takes each point of source to that of target.
-#[unsafe(no_mangle)]
-pub extern "C" fn tablet_from_points(source: &[f64], target: &[f64], matrix: &mut [f64]) -> u32
+pub fn tablet_from_points(source: &[f64], target: &[f64], matrix: &mut [f64]) -> u32
     ensures { Answer (points_tests source.now target.now matrix.old)
         (matrix_numbers (dlt.from_points (quad_of source.now) (quad_of target.now)).h.m)
         matrix.old result matrix.new }
@@ -94,8 +90,7 @@ pub extern "C" fn tablet_from_points(source: &[f64], target: &[f64], matrix: &mu
 }
 
 // The root of the mean squared distance of four points from four others.
-#[unsafe(no_mangle)]
-pub extern "C" fn tablet_rms_error(a: &[f64], b: &[f64], res: &mut [f64]) -> u32
+pub fn tablet_rms_error(a: &[f64], b: &[f64], res: &mut [f64]) -> u32
     ensures { Answer (error_tests a.now b.now res.old) (mat.rms_error
         (quad_of a.now) (quad_of b.now) ∷ []) res.old result res.new }
 {

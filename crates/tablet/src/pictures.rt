@@ -18,15 +18,7 @@ use book::internal::record_at;
 use frame::{FrameSpec, Number};
 
 // The colour of a capture at a position, and whether that is inside the picture.
-#[unsafe(no_mangle)]
-pub extern "C" fn tablet_bilinear(
-    capture: &[u8],
-    w: usize,
-    h: usize,
-    x: f64,
-    y: f64,
-    colour: &mut [u8],
-) -> u32
+pub fn tablet_bilinear(capture: &[u8], w: usize, h: usize, x: f64, y: f64, colour: &mut [u8]) -> u32
     ensures { Answer (colour_tests (image w h capture.now) colour.old) (colour_numbers
         (sample_at (image w h capture.now) (record { x = x; y = y }))) colour.old result
         colour.new }
@@ -46,8 +38,7 @@ pub extern "C" fn tablet_bilinear(
 }
 
 // A pixel's luma, of its three bytes: there is nothing to refuse.
-#[unsafe(no_mangle)]
-pub extern "C" fn tablet_luma(r: u8, g: u8, b: u8) -> f32
+pub fn tablet_luma(r: u8, g: u8, b: u8) -> f32
     ensures { result ≡ luma_of r g b }
 {
     sampling::luma(r, g, b)
@@ -69,8 +60,7 @@ fn answer_count(a: Number, counts: &mut [u64]) -> u32
 
 // Lays the canonical image out under a fit of 13 numbers, and counts the pixels whose position was
 // not inside the picture.
-#[unsafe(no_mangle)]
-pub extern "C" fn tablet_warp_with(
+pub fn tablet_warp_with(
     capture: &[u8],
     w: usize,
     h: usize,
@@ -101,8 +91,7 @@ pub extern "C" fn tablet_warp_with(
 }
 
 // The same under a book's record: its grade, and the 13 bit patterns of its fit.
-#[unsafe(no_mangle)]
-pub extern "C" fn tablet_warp_record(
+pub fn tablet_warp_record(
     capture: &[u8],
     w: usize,
     h: usize,
@@ -134,8 +123,7 @@ pub extern "C" fn tablet_warp_record(
 }
 
 // Labels the patches of a mask.
-#[unsafe(no_mangle)]
-pub extern "C" fn tablet_label_blobs(
+pub fn tablet_label_blobs(
     mask: &[u8],
     w: usize,
     h: usize,

@@ -5,8 +5,7 @@ ghost use Rattle.windows.specs.Promises.{Windowing};
 use super::answers::number_of;
 
 // Which of the first n patches k rectangles touch, and which is nearest to each.
-#[unsafe(no_mangle)]
-pub extern "C" fn tablet_patch_windows(
+pub fn tablet_patch_windows(
     patches: &[u64],
     n: usize,
     windows: &[u64],

@@ -132,8 +132,7 @@ fn tell_flat(a: Rectified, counts: &mut [u64], fit: &mut [f64]) -> u32
 // ---- the exported functions
 
 // The fit alone.
-#[unsafe(no_mangle)]
-pub extern "C" fn tablet_fit_geometry(
+pub fn tablet_fit_geometry(
     capture: &[u8],
     w: usize,
     h: usize,
@@ -178,8 +177,7 @@ pub extern "C" fn tablet_fit_geometry(
 }
 
 // The flat card of a capture.
-#[unsafe(no_mangle)]
-pub extern "C" fn tablet_rectify(
+pub fn tablet_rectify(
     capture: &[u8],
     w: usize,
     h: usize,

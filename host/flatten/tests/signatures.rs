@@ -1,4 +1,4 @@
-//! tablet.h and ffi.rs have the signatures of the exported functions (crates/tablet): the same functions, and of each the same
+//! tablet.h and ffi.rs have the signatures of the exported functions (crates/tablet_c): the same functions, and of each the same
 //! parameters by name, type and place. The functions over ffi's C declarations hand on what the parameters are called for.
 
 use std::collections::{BTreeMap, BTreeSet};
@@ -73,17 +73,19 @@ fn add(to: &mut Signatures, name: &str, signature: Signature) {
     assert!(to.insert(name.to_string(), signature).is_none(), "{name} stands twice");
 }
 
-/// `#[no_mangle] pub extern "C" fn name(parameter: type, ..) -> type` of Rattle's text.
+/// `#[unsafe(no_mangle)] pub extern "C" fn name(parameter: type, ..) -> type` of Rattle's text. In a contract `result` is what the
+/// function gives, so a parameter that is `result` elsewhere is `res` there.
 fn of_rattle(text: &str) -> Signatures {
     let text = plain(text);
     let mut all = Signatures::new();
-    for (at, start) in text.match_indices("#[no_mangle] pub extern \"C\" fn ") {
+    for (at, start) in text.match_indices("#[unsafe(no_mangle)] pub extern \"C\" fn ") {
         let from = at + start.len();
         let name = word(&text[from..]);
         let (inside, end) = bracketed(&text, from + name.len());
         let mut parameters = vec![];
         for p in listed(inside) {
             let (name, kind) = named(&p);
+            let name = if name == "res" { "result".to_string() } else { name };
             let slice = |open: &str| kind.strip_prefix(open).map(|k| k.trim_end_matches(']').to_string());
             let pointer = slice("&mut [").map(|k| format!("*mut {k}")).or(slice("&[").map(|k| format!("*const {k}")));
             match pointer {
@@ -216,7 +218,7 @@ struct Files {
 }
 
 fn files() -> Files {
-    let folder = "../../crates/tablet/src";
+    let folder = "../../crates/tablet_c/src";
     let there = fs::read_dir(format!("{}/{folder}", env!("CARGO_MANIFEST_DIR"))).unwrap();
     let rattle = there.map(|f| read(&format!("{folder}/{}", f.unwrap().file_name().to_str().unwrap()))).collect();
     Files { rattle, header: read("../include/tablet.h"), ffi: read("src/ffi.rs") }
