@@ -1,5 +1,7 @@
 // Functions of whole numbers that Rust has as methods: on usize, and on u64 where the name says so.
 // specs/ has the definitions and proofs/ the laws that every layer shares.
+#![tactic(auto)]
+
 pub mod internal;
 
 ghost use Rattle.std.specs.Prelude.{◌≡◌, ◌-◌, min, max};

@@ -15,14 +15,14 @@ use super::visit::spread;
 use base::max;
 
 // How many patches there are, and the most pixels that waited.
-#[derive(Drop)]
+#[derive(Clone, Copy)]
 pub struct Labelled {
     pub patches: usize,
     pub waited: usize,
 }
 
 // A flood's patch, and the most pixels that waited.
-#[derive(Drop)]
+#[derive(Clone, Copy)]
 pub struct Flooded {
     pub blob: Blob,
     pub waited: usize,

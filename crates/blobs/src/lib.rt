@@ -1,4 +1,6 @@
 // Patches of dark pixels.
+#![tactic(auto)]
+
 pub mod internal; // internal.rt: labelling without the tests, for the layers above
 mod outline;
 mod patch;
@@ -12,7 +14,7 @@ ghost use Rattle.blobs.specs.Promises.{patch_tests, Labelling};
 use frame::Verdict;
 
 // The record of a patch (requirements, 7.3 and 24).
-#[derive(Drop)]
+#[derive(Clone, Copy)]
 pub struct Blob {
     pub area: u64,
     pub sx: u64,
@@ -28,7 +30,7 @@ pub struct Blob {
 pub const RECORD_LENGTH: usize = 8;
 
 // How many patches there are, and the most pixels that waited; both 0 where it is refused.
-#[derive(Drop)]
+#[derive(Clone, Copy)]
 pub struct LabelAnswer {
     pub verdict: Verdict,
     pub patches: usize,

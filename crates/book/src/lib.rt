@@ -2,6 +2,8 @@
 //
 // The thirteen numbers of a record are bit patterns, u64 from the bytes to the lists and back: a
 // NaN has many patterns, and an `f64` of the language does not say which.
+#![tactic(auto)]
+
 mod constants;
 pub mod internal;
 mod reader;
@@ -32,7 +34,7 @@ pub const FIT_NUMBERS: usize = 13;
 
 // A record of a book. The grade is 0 where the fit was scored, 1 where a tap was outside the
 // picture, 2 where too few cells were sampled.
-#[derive(Drop)]
+#[derive(Clone, Copy)]
 pub struct FitRecord {
     pub panel: u32,
     pub camera: u32,

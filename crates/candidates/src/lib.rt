@@ -1,4 +1,6 @@
 // The ring rule and the list of candidates.
+#![tactic(auto)]
+
 ghost use Rattle.frame.specs.Image.{image};
 ghost use Rattle.candidates.specs.Areas.{areas};
 ghost use Rattle.candidates.specs.Promises.{Listing};
@@ -18,7 +20,7 @@ mod tests;
 pub const VERIFY_THRESHOLD: f64 = 0.78;
 
 // A patch that passed the ring rule; blob_index is its place in the patch list.
-#[derive(Drop)]
+#[derive(Clone, Copy)]
 pub struct Candidate {
     pub center: Point,
     pub score: f64,
@@ -27,14 +29,14 @@ pub struct Candidate {
 }
 
 // What the ring rule says of a patch: with centre, score and size where it passes.
-#[derive(Drop)]
+#[derive(Clone, Copy)]
 pub enum Ring {
     Passed(Point, f64, f64),
     Failed,
 }
 
 // A place to look at, and whether it should be dark.
-#[derive(Drop)]
+#[derive(Clone, Copy)]
 pub struct Probe {
     pub x: f64,
     pub y: f64,
@@ -43,7 +45,7 @@ pub struct Probe {
 
 // What the probes found: how many agreed, how many were made, and of those that should be dark and
 // of the others the sum of the luma and the number.
-#[derive(Drop)]
+#[derive(Clone, Copy)]
 pub struct Tally {
     pub hits: u32,
     pub made: u32,
@@ -54,7 +56,7 @@ pub struct Tally {
 }
 
 // The lengths of the work areas, in entries.
-#[derive(Drop)]
+#[derive(Clone, Copy)]
 pub struct Lengths {
     pub luma: usize,
     pub integral: usize,
@@ -67,7 +69,7 @@ pub struct Lengths {
 }
 
 // How many records the lists hold, and the most pixels that waited.
-#[derive(Drop)]
+#[derive(Clone, Copy)]
 pub struct Counts {
     pub patches: usize,
     pub candidates: usize,
@@ -75,7 +77,7 @@ pub struct Counts {
 }
 
 // The answer of `fiducial_candidates`: the numbers are 0 where it is refused.
-#[derive(Drop)]
+#[derive(Clone, Copy)]
 pub struct Listed {
     pub verdict: Verdict,
     pub patches: usize,

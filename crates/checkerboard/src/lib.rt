@@ -1,5 +1,7 @@
 // The mask with most patches (requirements, 22): a patch record for every other pixel is no more
 // than `blobs::label_blobs` may need.
+#![tactic(auto)]
+
 pub mod internal; // internal.rt: drawing without the tests, for the layers above
 
 ghost use Rattle.std.specs.Prelude.{◌≡◌};

@@ -2,7 +2,7 @@
 ghost use Rattle.std.specs.Prelude.{◌≡◌, [], ◌∷◌, ◌≤◌, length};
 ghost use Rattle.checkerboard_text.specs.Steps.{Digit, Side, blank_place, Measured};
 
-#[derive(Drop)]
+#[derive(Clone, Copy)]
 pub struct Size {
     pub w: usize,
     pub h: usize,

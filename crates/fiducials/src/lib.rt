@@ -1,4 +1,6 @@
 // The four corners.
+#![tactic(auto)]
+
 ghost use Rattle.frame.specs.Image.{image};
 ghost use Rattle.candidates.specs.Areas.{areas};
 ghost use Rattle.fiducials.specs.Promises.{Detection};
@@ -13,7 +15,7 @@ mod pick;
 mod quadrilateral;
 
 // Places in the patch list.
-#[derive(Drop)]
+#[derive(Clone, Copy)]
 pub struct Places {
     pub tl: usize,
     pub tr: usize,
@@ -22,7 +24,7 @@ pub struct Places {
 }
 
 // What the candidates give: 7, 8 or 9, or 0 with the corners' centres and places.
-#[derive(Drop)]
+#[derive(Clone, Copy)]
 pub struct Corners {
     pub number: u32,
     pub quad: Quad,
@@ -30,7 +32,7 @@ pub struct Corners {
 }
 
 // The same, with how many records the lists hold and the most pixels that waited.
-#[derive(Drop)]
+#[derive(Clone, Copy)]
 pub struct Found {
     pub number: u32,
     pub quad: Quad,
@@ -42,7 +44,7 @@ pub struct Found {
 
 // The answer of `detect_fiducials`: centres and places are 0 where it is refused, and the three
 // numbers where it is refused by 1 to 6.
-#[derive(Drop)]
+#[derive(Clone, Copy)]
 pub struct Detected {
     pub verdict: Verdict,
     pub quad: Quad,

@@ -1,4 +1,6 @@
 // The fit: homography and lens, and the grid score.
+#![tactic(auto)]
+
 mod grid;
 pub mod internal;
 mod numbers;
@@ -14,7 +16,7 @@ use homography::Homography;
 use radial::Radial;
 
 // Canonical to capture: homography, then lens.
-#[derive(Drop)]
+#[derive(Clone, Copy)]
 pub struct GeometryFit {
     pub h: Homography,
     pub radial: Radial,
@@ -77,7 +79,7 @@ impl GeometryFit {
 
 // What fit_for gives: the fit beside the enum. Where it is refused the fit is the identity with no
 // lens.
-#[derive(Drop)]
+#[derive(Clone, Copy)]
 pub struct Fitted {
     pub verdict: Verdict,
     pub fit: GeometryFit,
@@ -85,7 +87,7 @@ pub struct Fitted {
 
 // What the cell grid says of a fit: a score; or a tap outside the picture, with the number of its
 // cell; or fewer than 16 sampled cells.
-#[derive(Drop)]
+#[derive(Clone, Copy)]
 pub enum Grade {
     Score(f64),
     Outside(usize),
@@ -93,7 +95,7 @@ pub enum Grade {
 }
 
 // What grid_score gives.
-#[derive(Drop)]
+#[derive(Clone, Copy)]
 pub enum GridScore {
     Is(Grade),
     Refused(u32),

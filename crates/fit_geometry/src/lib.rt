@@ -1,4 +1,6 @@
 // Corners and lens search of a whole picture: geometry.rs, fit_geometry.
+#![tactic(auto)]
+
 ghost use Rattle.frame.specs.Image.{image};
 ghost use Rattle.candidates.specs.Areas.{areas};
 ghost use Rattle.fit_geometry.specs.Promises.{Fitting};
@@ -13,7 +15,7 @@ pub mod internal;
 
 // What a detection and a search give: 0 or a number from 7 on, the search's last stage, the
 // corners' places, and how much of the lists is filled.
-#[derive(Drop)]
+#[derive(Clone, Copy)]
 pub struct FitReport {
     pub number: u32,
     pub stage: Stage,
@@ -27,7 +29,7 @@ pub struct FitReport {
 // lens terms the stages tried and how many of them had a homography, the corners' places in the
 // patch list, how many patches and candidates there are and the most pixels that waited. Where it
 // is refused there is no fit and the places are 0; the counts are those of the trials made.
-#[derive(Drop)]
+#[derive(Clone, Copy)]
 pub struct PictureFit {
     pub verdict: Verdict,
     pub fit: GeometryFit,

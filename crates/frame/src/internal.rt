@@ -73,7 +73,7 @@ pub fn rows(frame: FrameSpec) -> usize
 }
 
 // The Rust's pair (x, y) of a cell's top left pixel.
-#[derive(Drop)]
+#[derive(Clone, Copy)]
 pub struct Origin {
     pub x: usize,
     pub y: usize,

@@ -1,4 +1,6 @@
 // The frame description, pictures, and what every layer shares of refusals and answers.
+#![tactic(auto)]
+
 mod constants;
 pub mod internal;
 
@@ -7,7 +9,7 @@ ghost use Rattle.frame.specs.Frame.{new_frame, cols, rows};
 ghost use Rattle.frame.specs.Refusals.{frame_tests};
 ghost use Rattle.frame.specs.Answers.{framed_for, number_for};
 
-#[derive(Drop)]
+#[derive(Clone, Copy)]
 pub struct FrameSpec {
     pub width: usize,
     pub height: usize,
@@ -16,14 +18,14 @@ pub struct FrameSpec {
 }
 
 // The Rust's [f64; 2].
-#[derive(Drop)]
+#[derive(Clone, Copy)]
 pub struct Point {
     pub x: f64,
     pub y: f64,
 }
 
 // Four points in the order TL, TR, BR, BL.
-#[derive(Drop)]
+#[derive(Clone, Copy)]
 pub struct Quad {
     pub tl: Point,
     pub tr: Point,
@@ -32,7 +34,7 @@ pub struct Quad {
 }
 
 // The Rust's [u8; 3].
-#[derive(Drop)]
+#[derive(Clone, Copy)]
 pub struct Rgb {
     pub r: u8,
     pub g: u8,
@@ -48,19 +50,19 @@ pub const WHITE: Rgb = Rgb {
 };
 
 // Answers: what is asked for, or the number of a refusal (requirements, 2).
-#[derive(Drop)]
+#[derive(Clone, Copy)]
 pub enum Verdict {
     Accepted,
     Refused(u32),
 }
 
-#[derive(Drop)]
+#[derive(Clone, Copy)]
 pub enum Number {
     Is(usize),
     Refused(u32),
 }
 
-#[derive(Drop)]
+#[derive(Clone, Copy)]
 pub enum Framed {
     Is(FrameSpec),
     Refused(u32),

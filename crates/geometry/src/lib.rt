@@ -1,4 +1,6 @@
 // The way from a capture to the flat card.
+#![tactic(auto)]
+
 ghost use Rattle.frame.specs.Image.{image};
 ghost use Rattle.candidates.specs.Areas.{areas};
 ghost use Rattle.geometry.specs.Promises.{Warping, RecordWarping};
@@ -17,7 +19,7 @@ pub mod internal;
 
 // What `rectify` gives: the fit of the picture, and how many of the card's pixels were read at a
 // position that is not inside the picture, where the reading is its edge's; 0 where it is refused.
-#[derive(Drop)]
+#[derive(Clone, Copy)]
 pub struct Rectified {
     pub picture: PictureFit,
     pub beyond: usize,

@@ -26,6 +26,8 @@
 // matrix takes each point to its own target, and the matrix that the elimination gives, where it
 // refuses no pivot, does so. proofs/Image shows that no entry of the rows is rounded where the
 // coordinates are whole and small.
+#![tactic(auto)]
+
 mod solve;
 
 ghost use Rattle.std.specs.Prelude.{◌≡◌, ◌<◌};
@@ -59,14 +61,14 @@ pub fn mat3_mul(a: &Mat3, b: &Mat3) -> Mat3
 }
 
 // A plane-to-plane projective map.
-#[derive(Drop)]
+#[derive(Clone, Copy)]
 pub struct Homography {
     pub m: [f64; 9],
 }
 
 // What from_points and inverse give: the matrix beside the enum, and the identity where it is
 // refused.
-#[derive(Drop)]
+#[derive(Clone, Copy)]
 pub struct Solved {
     pub verdict: Verdict,
     pub h: Homography,

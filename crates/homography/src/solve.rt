@@ -85,7 +85,7 @@ fn clear_column(a: &mut [f64; 72], col: usize, piv: usize)
     }
 }
 
-#[derive(Drop)]
+#[derive(Clone, Copy)]
 pub struct Solution {
     pub ok: bool,
     pub h: [f64; 8],

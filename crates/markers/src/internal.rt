@@ -68,14 +68,14 @@ pub fn origins(frame: FrameSpec) -> Quad
 }
 
 // The markers' side and top left corners.
-#[derive(Drop)]
+#[derive(Clone, Copy)]
 pub struct Markers {
     pub m: f64,
     pub origins: Quad,
 }
 
 // The Rust's Option of them.
-#[derive(Drop)]
+#[derive(Clone, Copy)]
 pub enum Layout {
     Is(Markers),
     None,

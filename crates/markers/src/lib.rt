@@ -1,5 +1,7 @@
 // The four corner markers: sizes, layout, centres and stamping. Each marker is a bullseye of
 // concentric squares, six units on a side: black ring, white ring, black dot.
+#![tactic(auto)]
+
 mod constants;
 pub mod internal;
 mod stamp;
@@ -22,7 +24,7 @@ pub const MARKER_MIN_PX: usize = 72;
 pub const MARKER_MAX_PX: usize = 96;
 
 // The four centres, or the number of a refusal.
-#[derive(Drop)]
+#[derive(Clone, Copy)]
 pub enum Centers {
     Are(Quad),
     Refused(u32),

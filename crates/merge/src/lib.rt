@@ -2,6 +2,8 @@
 //
 // Both books are gone through twice, with a place in each: once to count the keys and to compare
 // what they share, and only then to write, so that a refusal changes nothing.
+#![tactic(auto)]
+
 pub mod internal; // internal.rt: the limit of a joined book's length
 mod fill;
 mod plan;

@@ -9,7 +9,7 @@ use super::walk::{Cursors, Side, next, pass};
 use book::MOST_RECORDS;
 
 // How many different keys there are, and whether a key has other bytes in the other book.
-#[derive(Drop)]
+#[derive(Clone, Copy)]
 pub struct Plan {
     pub count: usize,
     pub differs: bool,

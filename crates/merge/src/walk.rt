@@ -5,14 +5,14 @@ ghost use Rattle.merge.specs.Steps.{Whole, Within, rest_of, side_of, passed};
 use super::records::{count, key_at};
 
 // How many records of each book are passed.
-#[derive(Drop)]
+#[derive(Clone, Copy)]
 pub struct Cursors {
     pub first: usize,
     pub second: usize,
 }
 
 // The books that the next key stands in.
-#[derive(Drop)]
+#[derive(Clone, Copy)]
 pub enum Side {
     First,
     Second,

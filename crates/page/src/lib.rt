@@ -1,5 +1,7 @@
 // The candidate page for the bench printer (requirements, 17): what the detector saw, a line for
 // each candidate.
+#![tactic(auto)]
+
 ghost use Rattle.page.specs.Promises.{Paging};
 
 use frame::Verdict;
@@ -18,7 +20,7 @@ pub const LINE_LENGTH: usize = 37;
 pub const MOST_CANDIDATES: usize = 9999;
 
 // The numbers of a line, in the page's order.
-#[derive(Drop)]
+#[derive(Clone, Copy)]
 pub struct Row {
     pub x: f64,
     pub y: f64,

@@ -4,7 +4,7 @@ ghost use Rattle.base.specs.Loops.{filled};
 ghost use Rattle.patch_text.specs.Steps.{FirstFeed, closed_length, placed, placed_at, all, pixel_of};
 ghost use Rattle.patch_text.specs.Steps.{pixel_at, Measured};
 
-#[derive(Drop)]
+#[derive(Clone, Copy)]
 pub struct Size {
     pub w: usize,
     pub h: usize,

@@ -13,6 +13,8 @@
 // and divides by 1 + k u^2. Where k < 0, g rises only up to u = 1 / sqrt(-3 k): a point observed
 // further out than rd = 2 / (3 sqrt(-3 k)), 0.861 at k = -0.2, has no preimage nearby, and the
 // steps wander (docs/DIFFERENCES.md).
+#![tactic(auto)]
+
 pub mod internal;
 
 ghost use Rattle.std.specs.Prelude.{◌≡◌};
@@ -20,7 +22,7 @@ ghost use Rattle.radial.specs.Lens as model;
 
 use frame::Point;
 
-#[derive(Drop)]
+#[derive(Clone, Copy)]
 pub struct Radial {
     pub k: f64,
     pub cx: f64,
@@ -29,7 +31,7 @@ pub struct Radial {
 }
 
 // What new gives.
-#[derive(Drop)]
+#[derive(Clone, Copy)]
 pub enum Lens {
     Is(Radial),
     Refused(u32),

@@ -1,4 +1,6 @@
 // Luma and bilinear readings (geometry.rs, "Sampling helpers").
+#![tactic(auto)]
+
 ghost use Rattle.std.specs.Prelude.{◌≡◌};
 ghost use Rattle.frame.specs.Image.{image};
 ghost use Rattle.frame.specs.Refusals.{capture_tests};
@@ -11,7 +13,7 @@ use frame::{Point, Rgb};
 pub mod internal;
 
 // Where a reading is taken along a side: `part` of the way from pixel `first` to pixel `next`.
-#[derive(Drop)]
+#[derive(Clone, Copy)]
 struct Neighbours {
     first: usize,
     next: usize,
@@ -19,14 +21,14 @@ struct Neighbours {
 }
 
 // A colour, and whether the position where it was read is inside the picture.
-#[derive(Drop)]
+#[derive(Clone, Copy)]
 pub struct Sample {
     pub colour: Rgb,
     pub inside: bool,
 }
 
 // The answer of `bilinear`: what it read, or the number of a refusal.
-#[derive(Drop)]
+#[derive(Clone, Copy)]
 pub enum Colour {
     Is(Sample),
     Refused(u32),

@@ -1,4 +1,6 @@
 // The lens search: geometry.rs, fit_geometry.
+#![tactic(auto)]
+
 mod constants;
 pub mod internal;
 mod stages;
@@ -10,14 +12,14 @@ use fit::{GeometryFit, Grade};
 pub const K_MAX: f64 = 0.20;
 
 // A trial: no homography, or the grade of its fit.
-#[derive(Drop)]
+#[derive(Clone, Copy)]
 pub enum Outcome {
     NoHomography,
     Graded(Grade),
 }
 
 // One entry of a stage: its outcome, and its fit where it has a homography.
-#[derive(Drop)]
+#[derive(Clone, Copy)]
 pub struct Trial {
     pub outcome: Outcome,
     pub fit: GeometryFit,
@@ -26,7 +28,7 @@ pub struct Trial {
 // A stage of the lens search: the trial that it keeps, by its outcome and its fit, and the counts
 // so far, those of earlier stages included: the different lens terms that each stage tried, and how
 // many of them had a homography.
-#[derive(Drop)]
+#[derive(Clone, Copy)]
 pub struct Stage {
     pub kept: Outcome,
     pub fit: GeometryFit,
@@ -36,7 +38,7 @@ pub struct Stage {
 
 // The lens search between two trials: the stage's number, the entry to be tried next, the k that
 // the stage goes around, and the stage so far.
-#[derive(Drop)]
+#[derive(Clone, Copy)]
 pub struct Search {
     pub number: usize,
     pub entry: usize,

@@ -8,6 +8,8 @@
 // and answered in lent slices, which may be longer than they need be; a shorter one is refusal 3.
 // What lies past the numbers of a slice is never written. A refusal by 1 to 6, 12 to 15, 17 or 18
 // writes nothing at all, and one by 16 no canonical image and no fit.
+#![tactic(auto)]
+
 mod answers;
 mod boards;
 mod books;

@@ -43,7 +43,7 @@ fn compare_all(console: &mut Console, b: &[u8]) {
 }
 
 // How many vectors agree, and the word where the next one starts.
-#[derive(Drop)]
+#[derive(Clone, Copy)]
 struct Run {
     agree: u64,
     at: usize,

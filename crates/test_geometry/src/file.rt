@@ -8,7 +8,7 @@ use std::fs::File;
 use std::{io, str};
 
 // What the words say, with the number of pixels of the capture and of bytes of the canonical image.
-#[derive(Drop)]
+#[derive(Clone, Copy)]
 pub struct Sizes {
     pub w: usize,
     pub h: usize,

@@ -1,11 +1,13 @@
 // The read-only view of a picture: w, h and the lent bytes. Each function over it is proved by a
 // walk; the functions, like `px` itself, serve inside only.
+#![tactic(auto)]
+
 pub mod internal; // internal.rt: making a view and reading through it
 
 use frame::Rgb;
 
 // The Rust's RgbImage, with the bytes lent.
-#[derive(Drop)]
+#[derive(Clone, Copy)]
 pub struct RgbImage<'a> {
     pub w: usize,
     pub h: usize,
@@ -13,7 +15,7 @@ pub struct RgbImage<'a> {
 }
 
 // The colour of a pixel, or that the picture has no such pixel, or the number of a refusal.
-#[derive(Drop)]
+#[derive(Clone, Copy)]
 pub enum Pixel {
     Is(Rgb),
     Outside,

@@ -1,4 +1,6 @@
 // Which patches of a list rectangles touch (requirements, 27).
+#![tactic(auto)]
+
 pub mod internal; // internal.rt: an answer read back
 mod answers;
 mod rectangles;
@@ -25,7 +27,7 @@ pub const WINDOW_LENGTH: usize = 3;
 pub const NO_PATCH: u64 = 18_446_744_073_709_551_615;
 
 // Its first and last columns and rows, which belong to it.
-#[derive(Drop)]
+#[derive(Clone, Copy)]
 pub struct Rectangle {
     pub x0: u64,
     pub y0: u64,
@@ -34,7 +36,7 @@ pub struct Rectangle {
 }
 
 // A patch by its place in the list, or none.
-#[derive(Drop)]
+#[derive(Clone, Copy)]
 pub enum Patch {
     At(usize),
     Nothing,
@@ -42,7 +44,7 @@ pub enum Patch {
 
 // The answer for a rectangle: how many boxes share a pixel with it, the first of these patches, and
 // the patch whose box centre is nearest.
-#[derive(Drop)]
+#[derive(Clone, Copy)]
 pub struct Window {
     pub count: u64,
     pub first: Patch,

@@ -10,7 +10,7 @@ use super::{NO_PATCH, Rectangle};
 pub const FARTHEST: u64 = 18_446_744_073_709_551_615;
 
 // The answer up to some patch, in numbers, and the distance of the nearest.
-#[derive(Drop)]
+#[derive(Clone, Copy)]
 pub struct Tally {
     pub count: u64,
     pub first: u64,
