@@ -27,8 +27,8 @@ loop-r-preserved c =
     let low : col + 1 ≤ c.loop-r.r + 1 = omega arith in
     let high : c.loop-r.r + 1 ≤ 8 = omega arith in
     elim c.if-abs.branch [
-        then-abs w ↦ (w.piv-is ∙ better_yes a col c.loop-r.r c.loop-r.piv (test ∙ w.if-abs.true) ∙ step, low, high, omega arith)
-        | else-abs w ↦ (w.piv-is ∙ better_no a col c.loop-r.r c.loop-r.piv (test ∙ w.if-abs.false) ∙ step, low, high, omega arith)
+      | then-abs w ↦ (w.piv-is ∙ better_yes a col c.loop-r.r c.loop-r.piv (test ∙ w.if-abs.true) ∙ step, low, high, omega arith)
+      | else-abs w ↦ (w.piv-is ∙ better_no a col c.loop-r.r c.loop-r.piv (test ∙ w.if-abs.false) ∙ step, low, high, omega arith)
     ]
 
 pub returns : goal.returns
