@@ -26,11 +26,11 @@ refusal : (a b t : List ℕ) (n : ℕ) → n ≡ lowest_of (merge_tests a b t) �
 refusal a b t n e h =
     let accepted : Mergeable c.args.first.now c.args.second.now = c.refused-number.ensures.1 c.if-number-ne0.false in
     record {
-  given = number_given _ _ n e h;
-  accepted = λ z. absurd (h (e ∙ z));
-  means = λ z. absurd (h (e ∙ z));
-  refused = λ _. refl;
-}
+      given = number_given _ _ n e h;
+      accepted = λ z. absurd (h (e ∙ z));
+      means = λ z. absurd (h (e ∙ z));
+      refused = λ _. refl;
+    }
 
 acceptance : (a b t t' : List ℕ) → Mergeable a b → book_length (size a b) ≤ length t → (differs a b || ltb 4294967295 (book_length (size a b))) ≡ false
     → t' ≡ joined_book a b ++ drop (book_length (size a b)) t → Merging a b t t' (N.Is (book_length (size a b)))

@@ -18,12 +18,11 @@ returns-then-k-gt-MOST_WINDOWS c =
     (λ e. absurd (omega arith), λ _. too_many_lem _ _ _ _ _ c.if-answers-k.false c.if-windows-k.false c.if-patches-n.false c.if-k-gt-MOST_WINDOWS.true)
 
 pub returns-then-not-every_rectangle : goal.returns-then-not-every_rectangle
-returns-then-not-every_rectangle c =
-    (
-      λ e. absurd (omega arith),
-      λ _. bad_rectangle_lem _ _ _ _ _ c.if-answers-k.false c.if-windows-k.false c.if-patches-n.false
-          (sym c.every_rectangle.ensures ∙ c.if-not-every_rectangle.true),
-    )
+returns-then-not-every_rectangle c = (
+  λ e. absurd (omega arith),
+  λ _. bad_rectangle_lem _ _ _ _ _ c.if-answers-k.false c.if-windows-k.false c.if-patches-n.false
+      (sym c.every_rectangle.ensures ∙ c.if-not-every_rectangle.true),
+)
 
 pub returns : goal.returns
 returns c =

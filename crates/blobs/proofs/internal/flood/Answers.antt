@@ -152,14 +152,17 @@ spread-top-requires c =
     let l = c.loop-top in
     let s = c.args in
     let low = l.top - 1 in
-    let e : l.top ≡ low + 1 = omega (arith, c.loop-top-test.true) in record { stacked = record {
+    let e : l.top ≡ low + 1 = omega (arith, c.loop-top-test.true) in record {
+      stacked = record {
         held = held_pop (subst (λ k. Held s.mask.now (marking l.seen k)) (stack_pop l.waiting l.top low e)
             (progress).held);
         long = long;
-      }; pixel = (
+      };
+      pixel = (
         taken,
         refl,
-      ) }
+      );
+    }
 
 pub loop-top-smaller : goal.loop-top-smaller
 loop-top-smaller c =

@@ -67,6 +67,9 @@ returns c =
     let f = c.flood-f in
     let u = c.store in
     let d = c.if-mask-i-eq0.false in
-    let o = c.if-seen-i-ne0.false in record { waited_after = ap (λ x. scanned f.new.seen (table (patch_at x) (n + 1)) c.max-waited.result) u.ensures
+    let o = c.if-seen-i-ne0.false in record {
+      waited_after = ap (λ x. scanned f.new.seen (table (patch_at x) (n + 1)) c.max-waited.result) u.ensures
           ∙ scan_stored s.mask.now s.w s.i s.seen.now s.patches.now n s.c.waited f.new.seen f.result.blob
-          f.result.waited c.max-waited.result d o (roomy d o) f.ensures.waited_after c.max-waited.ensures; patches_le_patches = (omega arith, ap (drop (record_length * (n + 1))) u.ensures ∙ stored_rest s.patches.now n f.result.blob (n + 1) (omega arith)) }
+          f.result.waited c.max-waited.result d o (roomy d o) f.ensures.waited_after c.max-waited.ensures;
+      patches_le_patches = (omega arith, ap (drop (record_length * (n + 1))) u.ensures ∙ stored_rest s.patches.now n f.result.blob (n + 1) (omega arith));
+    }

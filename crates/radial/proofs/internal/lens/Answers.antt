@@ -13,4 +13,4 @@ int_to_float-cy c = held64 _ (omega arith)
 
 pub returns : goal.returns
 unfolding radial of_bits of_int
-returns c = cc
+returns c = cc c.sqrt-half.ensures.value

@@ -12,13 +12,12 @@ returns-then-untouched c =
 
 pub returns-then-n-ne0 : goal.returns-then-n-ne0
 unfolding list_numbers place_numbers
-returns-then-n-ne0 c =
-    (
-      c.number_of_lem.ensures,
-      c.store_counts.ensures ∙ told_all _ _ _ (sym c.untouched.ensures ∙
-          c.if-untouched.false),
-      answered_refused _ _ c.if-n-ne0.true,
-    )
+returns-then-n-ne0 c = (
+  c.number_of_lem.ensures,
+  c.store_counts.ensures ∙ told_all _ _ _ (sym c.untouched.ensures ∙
+      c.if-untouched.false),
+  answered_refused _ _ c.if-n-ne0.true,
+)
 
 pub returns : goal.returns
 unfolding answered list_numbers place_numbers
