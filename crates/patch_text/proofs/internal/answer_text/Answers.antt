@@ -81,7 +81,7 @@ list-requires c =
     let r = reads in
     let z = reads_area r in
     c.label_blobs-labelled.ensures.accepted (sym (long_enough s.w s.h (length (take (s.w * s.h) c.fill.new.mask)) (length a.args.seen.now) (length a.args.waiting.now) (length a.args.patches.now) (reads_sides
-    r) (length-take-le (s.w * s.h) c.fill.new.mask (long)) (omega (arith, z, a.pre.1)) (omega (arith, z, a.pre.2)) (omega (arith, z, a.pre.3)))) in
+    r) (length-take-le (s.w * s.h) c.fill.new.mask (long)) (omega (arith, z, a.requires.1)) (omega (arith, z, a.requires.2)) (omega (arith, z, a.requires.3)))) in
     let few : c.label_blobs-labelled.result.patches ≤ 2048 = omega (
       arith,
       (labels).records.few,
@@ -115,7 +115,7 @@ returns c =
     let r = reads in
     let z = reads_area r in
     c.label_blobs-labelled.ensures.accepted (sym (long_enough s.w s.h (length (take (s.w * s.h) c.fill.new.mask)) (length a.args.seen.now) (length a.args.waiting.now) (length a.args.patches.now) (reads_sides
-    r) (length-take-le (s.w * s.h) c.fill.new.mask (long)) (omega (arith, z, a.pre.1)) (omega (arith, z, a.pre.2)) (omega (arith, z, a.pre.3)))) in
+    r) (length-take-le (s.w * s.h) c.fill.new.mask (long)) (omega (arith, z, a.requires.1)) (omega (arith, z, a.requires.2)) (omega (arith, z, a.requires.3)))) in
     let part : take (c.mask_size-size.result.w * c.mask_size-size.result.h) c.fill.new.mask
     ≡ table (pixel_at c.args.text.now
     c.mask_size-size.result.w) (c.mask_size-size.result.w * c.mask_size-size.result.h) = let s = c.mask_size-size.result in
