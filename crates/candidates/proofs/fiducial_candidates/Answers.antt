@@ -23,40 +23,11 @@ pub look-c-requires : goal.look-c-requires
 look-c-requires c = ready _ _ _ (sym c.refused-number.ensures
     ∙ c.if-number-ne0.false)
 
--- where `look` has returned
-abbrev after : goal.After-slice_known-16-1 → goal.After-look-c
-after c = c
-
-pub shape_of-luma : goal.shape_of-luma
-shape_of-luma c = (after c).look.auto.1.1.1.1.0
-
-pub shape_of-integral : goal.shape_of-integral
-shape_of-integral c = (after c).look.auto.1.1.1.1.1.0
-
-pub shape_of-mask : goal.shape_of-mask
-shape_of-mask c = (after c).look.auto.1.1.1.1.1.1.0
-
-pub shape_of-seen : goal.shape_of-seen
-shape_of-seen c = (after c).look.auto.1.1.1.1.1.1.1.0
-
-pub shape_of-waiting : goal.shape_of-waiting
-shape_of-waiting c = (after c).look.auto.1.1.1.1.1.1.1.1.0
-
-pub shape_of-patches : goal.shape_of-patches
-shape_of-patches c = (after c).look.auto.1.1.1.1.1.1.1.1.1.0
-
-pub shape_of-candidates : goal.shape_of-candidates
-shape_of-candidates c = (after c).look.auto.1.1.1.1.1.1.1.1.1.1.0
-
-pub shape_of-blob_index : goal.shape_of-blob_index
-shape_of-blob_index c = (after c).look.auto.1.1.1.1.1.1.1.1.1.1.1.0
-
 pub returns : goal.returns
 returns c =
-    let e = sym (after c).before.before.before.before.before.before.before.before.before.before.refused.ensures
-    ∙ (after c).before.before.before.before.before.before.before.before.before.if1.false in
+    let e = sym c.refused-number.ensures ∙ c.if-number-ne0.false in
     record {
       given = accepted_is _ e;
-      accepted = λ z. (after c).look.ensures;
+      accepted = λ z. c.look-c.ensures;
       refused = λ z. absurd (omega (arith, e, z));
     }

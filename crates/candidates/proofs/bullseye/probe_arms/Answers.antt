@@ -23,21 +23,15 @@ probe-left-requires c =
     let a = c.args in
     let few : c.probe-right.result.made ≤ a.t.made + 1 = c.probe-right.ensures.few in
     let start : a.t.made ≤ 13 = c.requires.fact_4 in
-    (c.requires.fact_1, (c.probe-right.ensures.sound, omega arith))
+    record { fact_1 = c.requires.fact_1; fact_2 = c.probe-right.ensures.sound; fact_3 = omega arith }
 
 pub probe-under-requires : goal.probe-under-requires
 probe-under-requires c =
     let a = c.args in
     let few : c.probe-right.result.made ≤ a.t.made + 1 = c.probe-right.ensures.few in
     let few2 : c.probe-left.result.made ≤ c.probe-right.result.made + 1 = c.probe-left.ensures.few in
-    let start : a.t.made ≤ 13 = c.requires.fact_4 in (
-      c.requires.fact_1,
-      (
-        c.probe-left.ensures.sound,
-        omega
-            arith,
-      ),
-    )
+    let start : a.t.made ≤ 13 = c.requires.fact_4 in
+    record { fact_1 = c.requires.fact_1; fact_2 = c.probe-left.ensures.sound; fact_3 = omega arith }
 
 pub probe-requires : goal.probe-requires
 probe-requires c =
@@ -45,13 +39,8 @@ probe-requires c =
     let few : c.probe-right.result.made ≤ a.t.made + 1 = c.probe-right.ensures.few in
     let few2 : c.probe-left.result.made ≤ c.probe-right.result.made + 1 = c.probe-left.ensures.few in
     let few3 : c.probe-under.result.made ≤ c.probe-left.result.made + 1 = c.probe-under.ensures.few in
-    let start : a.t.made ≤ 13 = c.requires.fact_4 in (
-      c.requires.fact_1,
-      (
-        c.probe-under.ensures.sound,
-        omega arith,
-      ),
-    )
+    let start : a.t.made ≤ 13 = c.requires.fact_4 in
+    record { fact_1 = c.requires.fact_1; fact_2 = c.probe-under.ensures.sound; fact_3 = omega arith }
 
 pub returns : goal.returns
 unfolding of_bits of_int

@@ -19,43 +19,28 @@ int_to_float-cy c = held64 _ (omega arith)
 pub probe_arms-dot-requires : goal.probe_arms-dot-requires
 probe_arms-dot-requires c =
     let few : c.probe-middle.result.made ≤ 1 = c.probe-middle.ensures.few in
-    (c.requires.fact_1, (c.requires.fact_2, (c.probe-middle.ensures.sound, omega arith)))
+    record { fact_1 = c.requires.fact_1; fact_2 = c.requires.fact_2; fact_3 = c.probe-middle.ensures.sound; fact_4 = omega arith }
 
 pub probe_arms-white-requires : goal.probe_arms-white-requires
 probe_arms-white-requires c =
     let few : c.probe-middle.result.made ≤ 1 = c.probe-middle.ensures.few in
-    let few2 : c.probe_arms-dot.result.made ≤ c.probe-middle.result.made + 4 = c.probe_arms-dot.ensures.few in (
-      c.requires.fact_1,
-      (
-        c.requires.fact_2,
-        (c.probe_arms-dot.ensures.sound, omega arith),
-      ),
-    )
+    let few2 : c.probe_arms-dot.result.made ≤ c.probe-middle.result.made + 4 = c.probe_arms-dot.ensures.few in
+    record { fact_1 = c.requires.fact_1; fact_2 = c.requires.fact_2; fact_3 = c.probe_arms-dot.ensures.sound; fact_4 = omega arith }
 
 pub probe_arms-black-requires : goal.probe_arms-black-requires
 probe_arms-black-requires c =
     let few : c.probe-middle.result.made ≤ 1 = c.probe-middle.ensures.few in
     let few2 : c.probe_arms-dot.result.made ≤ c.probe-middle.result.made + 4 = c.probe_arms-dot.ensures.few in
-    let few3 : c.probe_arms-white.result.made ≤ c.probe_arms-dot.result.made + 4 = c.probe_arms-white.ensures.few in (
-      c.requires.fact_1,
-      (
-        c.requires.fact_2,
-        (c.probe_arms-white.ensures.sound, omega arith),
-      ),
-    )
+    let few3 : c.probe_arms-white.result.made ≤ c.probe_arms-dot.result.made + 4 = c.probe_arms-white.ensures.few in
+    record { fact_1 = c.requires.fact_1; fact_2 = c.requires.fact_2; fact_3 = c.probe_arms-white.ensures.sound; fact_4 = omega arith }
 
 pub probe_arms-requires : goal.probe_arms-requires
 probe_arms-requires c =
     let few : c.probe-middle.result.made ≤ 1 = c.probe-middle.ensures.few in
     let few2 : c.probe_arms-dot.result.made ≤ c.probe-middle.result.made + 4 = c.probe_arms-dot.ensures.few in
     let few3 : c.probe_arms-white.result.made ≤ c.probe_arms-dot.result.made + 4 = c.probe_arms-white.ensures.few in
-    let few4 : c.probe_arms-black.result.made ≤ c.probe_arms-white.result.made + 4 = c.probe_arms-black.ensures.few in (
-      c.requires.fact_1,
-      (
-        c.requires.fact_2,
-        (c.probe_arms-black.ensures.sound, omega arith),
-      ),
-    )
+    let few4 : c.probe_arms-black.result.made ≤ c.probe_arms-white.result.made + 4 = c.probe_arms-black.ensures.few in
+    record { fact_1 = c.requires.fact_1; fact_2 = c.requires.fact_2; fact_3 = c.probe_arms-black.ensures.sound; fact_4 = omega arith }
 
 all_probes : (c : goal.After-share) →
     let a = c.args in

@@ -32,9 +32,9 @@ store-k-requires c =
     c.candidate_of-ring.ensures ∙ ap (ring_of a.mask.now a.luma.now a.w a.h) c.blob_at.ensures in
     let a = c.args in
     let i = c.loop-j.invariant in
-    storable a.w a.h a.mask.now a.luma.now a.patches.now a.n a.candidates.now a.blob-index.now
+    storable a.w a.h a.mask.now a.luma.now a.patches.now a.n a.candidates.now a.blob_index.now
     c.requires
-    c.loop-j.j c.loop-j.k c.loop-j.candidates c.loop-j.blob-index c.candidate_of-ring.result c.loop-j-test.true i.1 i.0.c_long i.0.p_long (ring_is)
+    c.loop-j.j c.loop-j.k c.loop-j.candidates c.loop-j.blob_index c.candidate_of-ring.result c.loop-j-test.true i.1 i.0.c_long i.0.p_long (ring_is)
 
 pub loop-j-preserved : goal.loop-j-preserved
 loop-j-preserved c =
@@ -47,9 +47,9 @@ loop-j-preserved c =
     let e = c.store-k.ensures in
     let r = c.candidate_of-ring.result in
     let t = c.loop-j-test.true in
-    let ready = storable a.w a.h a.mask.now a.luma.now a.patches.now a.n a.candidates.now a.blob-index.now c.requires l.j l.k l.candidates l.blob-index r t i.1 i.0.c_long i.0.p_long (ring_is)
+    let ready = storable a.w a.h a.mask.now a.luma.now a.patches.now a.n a.candidates.now a.blob_index.now c.requires l.j l.k l.candidates l.blob_index r t i.1 i.0.c_long i.0.p_long (ring_is)
     in (
-      list_turn a.mask.now a.luma.now a.w a.h (patch_at a.patches.now) l.j a.candidates.now a.blob-index.now l.candidates l.blob-index l.k _ _ _ r i.0 (ring_is) ready e.0 e.1 e.2,
+      list_turn a.mask.now a.luma.now a.w a.h (patch_at a.patches.now) l.j a.candidates.now a.blob_index.now l.candidates l.blob_index l.k _ _ _ r i.0 (ring_is) ready e.0 e.1 e.2,
       count_turn a.mask.now a.luma.now a.w a.h (patch_at a.patches.now) l.j l.k _ r (ring_is) e.0 i.1,
       omega arith,
     )
@@ -66,4 +66,4 @@ returns c =
     let l = c.loop-j in
     let e : l.j ≡ a.n = let u = l.invariant.2 in let v = c.loop-j-test.false in omega arith in
     subst (λ z. CandidateList a.mask.now a.luma.now a.w a.h (patch_at a.patches.now) z a.candidates.now
-    a.blob-index.now l.candidates l.blob-index l.k) e l.invariant.0
+    a.blob_index.now l.candidates l.blob_index l.k) e l.invariant.0

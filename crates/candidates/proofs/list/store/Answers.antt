@@ -7,7 +7,7 @@ use Rattle.candidates.proofs.Listing.{stored_passed, stored_failed}
 use Rattle.candidates.proofs.list.store.Goals as goal
 
 room : (c : goal.In-Passed) → let a = c.args in
-    (4 * a.k + 4 ≤ length a.candidates.now) × (a.k < length a.blob-index.now)
+    (4 * a.k + 4 ≤ length a.candidates.now) × (a.k < length a.blob_index.now)
 room c = c.requires.room (λ e. let g = c.in-Passed.is in let z : ◌≡◌ {A = ℕ} 0 1 = cc in omega arith)
 
 pub bounds-candidates-i : goal.bounds-candidates-i
@@ -29,4 +29,4 @@ pub returns-in-Passed : goal.returns-in-Passed
 returns-in-Passed c = stored_passed _ _ _ _ _ _ _ _ c.in-Passed.is
 
 pub returns-in-Failed : goal.returns-in-Failed
-returns-in-Failed c = stored_failed _ _ _ _ _ c.enum_told-1.given.1
+returns-in-Failed c = stored_failed _ _ _ _ _ c.in-Failed.is
