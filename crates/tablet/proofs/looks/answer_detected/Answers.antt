@@ -12,22 +12,12 @@ returns-then-untouched c =
 
 pub returns-then-n-ne0 : goal.returns-then-n-ne0
 unfolding list_numbers place_numbers
-<<<<<<< HEAD
 returns-then-n-ne0 c = (
-  c.number_of_lem.ensures,
+  c.number_of-n.ensures,
   c.store_counts.ensures ∙ told_all _ _ _ (sym c.untouched.ensures ∙
       c.if-untouched.false),
   answered_refused _ _ c.if-n-ne0.true,
 )
-=======
-returns-then-n-ne0 c =
-    (
-      c.number_of-n.ensures,
-      c.store_counts.ensures ∙ told_all _ _ _ (sym c.untouched.ensures ∙
-          c.if-untouched.false),
-      answered_refused _ _ c.if-n-ne0.true,
-    )
->>>>>>> 5a70f9ce6def8e386db4ea3f0e303f42bc9e49a0
 
 pub returns : goal.returns
 unfolding answered list_numbers place_numbers
