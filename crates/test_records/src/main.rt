@@ -92,8 +92,8 @@ fn find(console: &mut Console, capture: &[u8]) {
     }
 }
 
-// ---- the slices of records: arrays by value, lent to the crate's store and fetch. Only these four
-// functions lend them, so only they are proved by a walk.
+// ---- the slices of records: arrays by value, lent to the crate's store and fetch by these four
+// functions.
 
 fn stored_patch(list: [Blob; 5], patches: &[u64], j: usize) -> [Blob; 5]
     requires { (j < 5) × (record_length * (j + 1) ≤ length patches.now) }
