@@ -3,13 +3,16 @@
 // `patch_text::internal::answer`.
 #![tactic(auto)]
 
-fn main() {
+use std::io;
+
+fn main(rt: HostRuntime) -> io::Result<()> {
     let mut input = [0u8; patch_text::internal::INPUT_LENGTH];
-    let n = io::read_full(0, &mut input);
+    let n = console::read_full(&mut rt.stdin(), &mut input)?;
     let mut out = [0u8; patch_text::internal::OUTPUT_LENGTH];
     let k = patch_text::internal::answer(&input, n, &mut out);
-    // A program has no exit status to give: that its answer is lost it can only say.
-    if !io::write_all(1, &out[..k]) {
-        io::write_all(2, b"patches: standard output cannot be written\n");
+    let written = rt.write_all(&out[..k]);
+    if written.is_err() {
+        rt.eprintln("patches: standard output cannot be written")?;
     }
+    written
 }

@@ -6,16 +6,20 @@
 ghost use Rattle.std.specs.Prelude.{◌≤◌};
 
 use base::min;
+use console::Console;
 use frame::Verdict;
+use std::io;
 
-fn main() {
-    let mut input = io::large_buffer();
-    let n = io::read_full(0, &mut input);
-    label_all(&input[..n]);
+fn main(rt: HostRuntime) -> io::Result<()> {
+    let mut console = Console::new(rt);
+    let mut input = [0u8; 65536];
+    let n = console.read_full(&mut input);
+    label_all(&mut console, &input[..n]);
+    console.finish()
 }
 
 // The areas are those of a mask of 64 by 64 pixels, and are not cleared between two masks.
-fn label_all(input: &[u8]) {
+fn label_all(console: &mut Console, input: &[u8]) {
     let mut seen = [9u8; 4096];
     let mut waiting = [9u32; 4096];
     let mut patches = [9u64; 16384];
@@ -27,6 +31,7 @@ fn label_all(input: &[u8]) {
         let h = vectors::word(head, 1) as usize;
         let end = min(start + pixels(w, h), input.len());
         label(
+            console,
             &input[start..end],
             w,
             h,
@@ -52,6 +57,7 @@ fn pixels(w: usize, h: usize) -> usize
 }
 
 fn label(
+    console: &mut Console,
     mask: &[u8],
     w: usize,
     h: usize,
@@ -60,29 +66,29 @@ fn label(
     patches: &mut [u64; 16384],
 ) {
     let r = blobs::label_blobs(mask, w, h, seen, waiting, patches);
-    print(w);
-    io::write_all(1, b" ");
-    print(h);
+    print(console, w);
+    console.text(b" ");
+    print(console, h);
     let verdict = r.verdict;
     match verdict {
-        Verdict::Accepted => found(r.patches, r.waited),
-        Verdict::Refused(n) => refused(n),
+        Verdict::Accepted => found(console, r.patches, r.waited),
+        Verdict::Refused(n) => refused(console, n),
     }
-    io::write_all(1, b"\n");
+    console.text(b"\n");
 }
 
-fn found(patches: usize, waited: usize) {
-    io::write_all(1, b" ");
-    print(patches);
-    io::write_all(1, b" ");
-    print(waited);
+fn found(console: &mut Console, patches: usize, waited: usize) {
+    console.text(b" ");
+    print(console, patches);
+    console.text(b" ");
+    print(console, waited);
 }
 
-fn refused(n: u32) {
-    io::write_all(1, b" refused ");
-    print(n as usize);
+fn refused(console: &mut Console, n: u32) {
+    console.text(b" refused ");
+    print(console, n as usize);
 }
 
-fn print(n: usize) {
-    io::print_decimal(1, n as u64);
+fn print(console: &mut Console, n: usize) {
+    console.decimal(n as u64);
 }

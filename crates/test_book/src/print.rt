@@ -2,63 +2,64 @@
 ghost use Rattle.std.specs.Prelude.{◌≤◌, length};
 
 use book::FitRecord;
+use console::Console;
 use fit::GeometryFit;
 use frame::Number;
 
-pub(crate) fn labelled(label: &[u8], number: u64) {
-    io::write_all(1, label);
-    io::print_decimal(1, number);
-    io::write_all(1, b"\n");
+pub(crate) fn labelled(console: &mut Console, label: &[u8], number: u64) {
+    console.text(label);
+    console.decimal(number);
+    console.text(b"\n");
 }
 
 // Count or length, or what the call is refused for.
-pub(crate) fn number(answer: Number) {
+pub(crate) fn number(console: &mut Console, answer: Number) {
     match answer {
-        Number::Is(n) => labelled(b"is ", n as u64),
-        Number::Refused(n) => labelled(b"refused ", n as u64),
+        Number::Is(n) => labelled(console, b"is ", n as u64),
+        Number::Refused(n) => labelled(console, b"refused ", n as u64),
     }
 }
 
 // ---- records and fits
 
-pub(crate) fn record(r: FitRecord) {
+pub(crate) fn record(console: &mut Console, r: FitRecord) {
     let key_and_grade = [r.panel, r.camera, r.grade];
     let patterns = r.numbers;
-    heads(&key_and_grade);
-    numbers(&patterns);
+    heads(console, &key_and_grade);
+    numbers(console, &patterns);
 }
 
 // The floats of a fit, each taken from its place by name.
-pub(crate) fn fit(fit: GeometryFit) {
+pub(crate) fn fit(console: &mut Console, fit: GeometryFit) {
     let h = fit.h;
     let m = h.m;
     let lens = fit.radial;
-    io::write_all(1, b"fit");
+    console.text(b"fit");
     for i in 0..9 {
-        float(m[i]);
+        float(console, m[i]);
     }
-    float(lens.k);
-    float(lens.cx);
-    float(lens.cy);
-    float(lens.norm);
-    io::write_all(1, b"\n");
+    float(console, lens.k);
+    float(console, lens.cx);
+    float(console, lens.cy);
+    float(console, lens.norm);
+    console.text(b"\n");
 }
 
-fn float(x: f64) {
-    entry(vectors::bits(x), 16);
+fn float(console: &mut Console, x: f64) {
+    entry(console, vectors::bits(x), 16);
 }
 
 // ---- areas
 
-pub(crate) fn heads(l: &[u32]) {
-    io::write_all(1, b"heads");
-    each_head(l);
-    io::write_all(1, b"\n");
+pub(crate) fn heads(console: &mut Console, l: &[u32]) {
+    console.text(b"heads");
+    each_head(console, l);
+    console.text(b"\n");
 }
 
-fn each_head(l: &[u32]) {
+fn each_head(console: &mut Console, l: &[u32]) {
     for k in 0..l.len() {
-        entry(wide(l[k]), 8);
+        entry(console, wide(l[k]), 8);
     }
 }
 
@@ -66,55 +67,55 @@ fn wide(x: u32) -> u64 {
     x as u64
 }
 
-fn entry(x: u64, digits: usize) {
-    io::write_all(1, b" ");
-    io::print_hex(1, x, digits);
+fn entry(console: &mut Console, x: u64, digits: usize) {
+    console.text(b" ");
+    console.hex(x, digits);
 }
 
-pub(crate) fn numbers(l: &[u64]) {
-    io::write_all(1, b"numbers");
+pub(crate) fn numbers(console: &mut Console, l: &[u64]) {
+    console.text(b"numbers");
     if l.len() < 5000 {
-        each_number(l);
+        each_number(console, l);
     } else {
-        ends_of_numbers(l);
+        ends_of_numbers(console, l);
     }
-    io::write_all(1, b"\n");
+    console.text(b"\n");
 }
 
-fn each_number(l: &[u64]) {
+fn each_number(console: &mut Console, l: &[u64]) {
     for k in 0..l.len() {
-        entry(l[k], 16);
+        entry(console, l[k], 16);
     }
 }
 
 // First and last entries of a long list, and the checksum of all of it.
-fn ends_of_numbers(l: &[u64])
+fn ends_of_numbers(console: &mut Console, l: &[u64])
     requires { 16 ≤ length l.now }
 {
     let start = l.len() - 16;
-    each_number(&l[..16]);
-    each_number(&l[start..]);
-    checksum(vectors::sum::of_numbers(l));
+    each_number(console, &l[..16]);
+    each_number(console, &l[start..]);
+    checksum(console, vectors::sum::of_numbers(l));
 }
 
-fn checksum(sum: u64) {
-    io::write_all(1, b" ");
-    io::print_decimal(1, sum);
+fn checksum(console: &mut Console, sum: u64) {
+    console.text(b" ");
+    console.decimal(sum);
 }
 
-pub(crate) fn book(b: &[u8]) {
-    io::write_all(1, b"book ");
+pub(crate) fn book(console: &mut Console, b: &[u8]) {
+    console.text(b"book ");
     if b.len() < 5000 {
-        each_byte(b);
+        each_byte(console, b);
     } else {
-        ends_of_bytes(b);
+        ends_of_bytes(console, b);
     }
-    io::write_all(1, b"\n");
+    console.text(b"\n");
 }
 
-fn each_byte(b: &[u8]) {
+fn each_byte(console: &mut Console, b: &[u8]) {
     for k in 0..b.len() {
-        io::print_hex(1, byte(b[k]), 2);
+        console.hex(byte(b[k]), 2);
     }
 }
 
@@ -122,11 +123,11 @@ fn byte(x: u8) -> u64 {
     x as u64
 }
 
-fn ends_of_bytes(b: &[u8])
+fn ends_of_bytes(console: &mut Console, b: &[u8])
     requires { 16 ≤ length b.now }
 {
     let start = b.len() - 16;
-    each_byte(&b[..16]);
-    each_byte(&b[start..]);
-    checksum(vectors::sum::of_bytes(b));
+    each_byte(console, &b[..16]);
+    each_byte(console, &b[start..]);
+    checksum(console, vectors::sum::of_bytes(b));
 }

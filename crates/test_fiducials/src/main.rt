@@ -8,34 +8,38 @@ ghost use Rattle.std.specs.Prelude.{◌≡◌, ◌+◌, ◌*◌, ◌≤◌, ◌<
 use base::min;
 use candidates::fiducial_candidates;
 use candidates::internal::candidate_at;
+use console::Console;
 use fiducials::internal::{one_way, too_small};
 use fiducials::{Places, detect_fiducials};
 use frame::internal::fill_rect;
 use frame::{FrameSpec, Point, Quad, Rgb, Verdict};
+use std::io;
 
-fn main() {
-    let mut buf = io::large_buffer();
-    let n = io::read_full(0, &mut buf);
+fn main(rt: HostRuntime) -> io::Result<()> {
+    let mut console = Console::new(rt);
+    let mut buf = [0u8; 65536];
+    let n = console.read_full(&mut buf);
     if 0 < n {
-        let at = pictures(&buf[..n]);
-        quads(&buf[at..n]);
+        let at = pictures(&mut console, &buf[..n]);
+        quads(&mut console, &buf[at..n]);
     }
+    console.finish()
 }
 
 // The pictures in turn, and the place after the last.
-fn pictures(b: &[u8]) -> usize
+fn pictures(console: &mut Console, b: &[u8]) -> usize
     requires { (1 ≤ length b.now) × (length b.now ≤ 65536) }
     ensures { result ≤ length b.now }
 {
     let mut at: usize = 1;
     for i in 0..number(b, 0) {
-        at = picture_at(b, at);
+        at = picture_at(console, b, at);
     }
     at
 }
 
 // The picture that starts at a place, and the place after it; the same place where b is too short.
-fn picture_at(b: &[u8], at: usize) -> usize
+fn picture_at(console: &mut Console, b: &[u8], at: usize) -> usize
     requires { (at ≤ length b.now) × (length b.now ≤ 65536) }
     ensures { result ≤ length b.now }
 {
@@ -49,7 +53,7 @@ fn picture_at(b: &[u8], at: usize) -> usize
     if b.len() < end {
         return at;
     }
-    picture(&b[start..end], w, h);
+    picture(console, &b[start..end], w, h);
     end
 }
 
@@ -74,16 +78,16 @@ fn size(w: usize, h: usize) -> usize
     3 * w * h
 }
 
-fn picture(rects: &[u8], w: usize, h: usize)
+fn picture(console: &mut Console, rects: &[u8], w: usize, h: usize)
     requires { (w < 256) × (h < 256) }
 {
     let mut capture = [255u8; 195075];
     let n = size(w, h);
-    find(rects, w, h, &mut capture[..n]);
+    find(console, rects, w, h, &mut capture[..n]);
 }
 
 // What is found once the rectangles are drawn on a white picture.
-fn find(rects: &[u8], w: usize, h: usize, bytes: &mut [u8])
+fn find(console: &mut Console, rects: &[u8], w: usize, h: usize, bytes: &mut [u8])
     requires { (w < 256) × (h < 256) × (length bytes.old ≡ 3 * w * h) }
 {
     draw(rects, w, h, bytes);
@@ -93,8 +97,8 @@ fn find(rects: &[u8], w: usize, h: usize, bytes: &mut [u8])
         cell: 1,
         margin: 48,
     };
-    find_candidates(bytes, w, h, frame);
-    find_corners(bytes, w, h, frame);
+    find_candidates(console, bytes, w, h, frame);
+    find_corners(console, bytes, w, h, frame);
 }
 
 // The rectangles in their order.
@@ -128,7 +132,7 @@ fn draw_one(rects: &[u8], at: usize, w: usize, h: usize, bytes: &mut [u8])
 }
 
 // The areas are those of a picture of 96 by 96: a larger one is refused by 3.
-fn find_candidates(capture: &[u8], w: usize, h: usize, frame: FrameSpec) {
+fn find_candidates(console: &mut Console, capture: &[u8], w: usize, h: usize, frame: FrameSpec) {
     let mut luma = [1.0f32; 9216];
     let mut integral = [1.0; 9409];
     let mut mask = [7u8; 9216];
@@ -152,36 +156,36 @@ fn find_candidates(capture: &[u8], w: usize, h: usize, frame: FrameSpec) {
         &mut blob_index,
     );
     let verdict = r.verdict;
-    print_counts(verdict, r.patches, r.candidates);
-    print_candidates(&records, &blob_index, r.candidates);
+    print_counts(console, verdict, r.patches, r.candidates);
+    print_candidates(console, &records, &blob_index, r.candidates);
 }
 
-fn print_counts(verdict: Verdict, patches: usize, candidates: usize) {
-    print(number_of(verdict), b' ');
-    print(patches as u64, b' ');
-    print(candidates as u64, b'\n');
+fn print_counts(console: &mut Console, verdict: Verdict, patches: usize, candidates: usize) {
+    print(console, number_of(verdict), b' ');
+    print(console, patches as u64, b' ');
+    print(console, candidates as u64, b'\n');
 }
 
-fn print_candidates(records: &[f64], blob_index: &[u32], k: usize)
+fn print_candidates(console: &mut Console, records: &[f64], blob_index: &[u32], k: usize)
     requires { (length records.now ≡ 1152) × (length blob_index.now ≡ 288) }
 {
     for i in 0..min(k, 288) {
-        print_candidate(records, blob_index, i);
+        print_candidate(console, records, blob_index, i);
     }
 }
 
-fn print_candidate(records: &[f64], blob_index: &[u32], i: usize)
+fn print_candidate(console: &mut Console, records: &[f64], blob_index: &[u32], i: usize)
     requires { (4 * i + 3 < length records.now) × (i < length blob_index.now) }
 {
     let c = candidate_at(records, blob_index, i);
     let center = c.center;
-    print_point(center);
-    print_float(c.score);
-    print_float(c.size);
-    print(c.blob_index as u64, b'\n');
+    print_point(console, center);
+    print_float(console, c.score);
+    print_float(console, c.size);
+    print(console, c.blob_index as u64, b'\n');
 }
 
-fn find_corners(capture: &[u8], w: usize, h: usize, frame: FrameSpec) {
+fn find_corners(console: &mut Console, capture: &[u8], w: usize, h: usize, frame: FrameSpec) {
     let mut luma = [1.0f32; 9216];
     let mut integral = [1.0; 9409];
     let mut mask = [7u8; 9216];
@@ -207,11 +211,11 @@ fn find_corners(capture: &[u8], w: usize, h: usize, frame: FrameSpec) {
     let verdict = r.verdict;
     let quad = r.quad;
     let places = r.places;
-    print_corners(number_of(verdict), quad, places);
+    print_corners(console, number_of(verdict), quad, places);
 }
 
-fn print_corners(number: u64, q: Quad, s: Places) {
-    print(number, b'\n');
+fn print_corners(console: &mut Console, number: u64, q: Quad, s: Places) {
+    print(console, number, b'\n');
     if number != 0 {
         return;
     }
@@ -219,31 +223,31 @@ fn print_corners(number: u64, q: Quad, s: Places) {
     let tr = q.tr;
     let br = q.br;
     let bl = q.bl;
-    print_corner(tl, s.tl);
-    print_corner(tr, s.tr);
-    print_corner(br, s.br);
-    print_corner(bl, s.bl);
+    print_corner(console, tl, s.tl);
+    print_corner(console, tr, s.tr);
+    print_corner(console, br, s.br);
+    print_corner(console, bl, s.bl);
 }
 
-fn print_corner(p: Point, place: usize) {
-    print_point(p);
-    print(place as u64, b'\n');
+fn print_corner(console: &mut Console, p: Point, place: usize) {
+    print_point(console, p);
+    print(console, place as u64, b'\n');
 }
 
-fn print_point(p: Point) {
-    print_float(p.x);
-    print_float(p.y);
+fn print_point(console: &mut Console, p: Point) {
+    print_float(console, p.x);
+    print_float(console, p.y);
 }
 
-fn print_float(x: f64) {
-    io::print_hex(1, vectors::bits(x), 16);
-    io::write_all(1, b" ");
+fn print_float(console: &mut Console, x: f64) {
+    console.hex(vectors::bits(x), 16);
+    console.text(b" ");
 }
 
 // A number and the byte after it.
-fn print(n: u64, after: u8) {
-    io::print_decimal(1, n);
-    io::write_all(1, &[after]);
+fn print(console: &mut Console, n: u64, after: u8) {
+    console.decimal(n);
+    console.text(&[after]);
 }
 
 // The refusal number, or 0.
@@ -255,14 +259,14 @@ fn number_of(v: Verdict) -> u64 {
 }
 
 // Eight words each.
-fn quads(b: &[u8]) {
+fn quads(console: &mut Console, b: &[u8]) {
     for i in 0..b.len() / 64 {
-        judge(b, 8 * i);
+        judge(console, b, 8 * i);
     }
 }
 
 // Whether the signs of the quadrilateral at a word agree, and whether it is too small.
-fn judge(b: &[u8], at: usize)
+fn judge(console: &mut Console, b: &[u8], at: usize)
     requires { at + 8 ≤ length b.now }
 {
     let q = Quad {
@@ -271,8 +275,8 @@ fn judge(b: &[u8], at: usize)
         br: point(b, at + 4),
         bl: point(b, at + 6),
     };
-    print(one_way(q) as u64, b' ');
-    print(too_small(640, 480, q) as u64, b'\n');
+    print(console, one_way(q) as u64, b' ');
+    print(console, too_small(640, 480, q) as u64, b'\n');
 }
 
 fn point(b: &[u8], at: usize) -> Point

@@ -4,29 +4,33 @@
 
 ghost use Rattle.std.specs.Prelude.{◌+◌, ◌≤◌, length};
 
+use console::Console;
 use fit::{Fitted, GeometryFit, Grade, GridScore};
 use frame::{FrameSpec, Point, Quad, Verdict};
 use homography::Homography;
 use radial::Radial;
+use std::io;
 
 // A record at a time, to the end of stdin.
-fn main() {
+fn main(rt: HostRuntime) -> io::Result<()> {
+    let mut console = Console::new(rt);
     let mut capture = [0u8; 8192];
     for _ in 0..10000usize {
         let mut record = [0u8; 192];
-        let n = io::read_full(0, &mut record);
+        let n = console.read_full(&mut record);
         if n < 192 {
-            return;
+            break;
         }
-        answer(&record, &mut capture);
+        answer(&mut console, &record, &mut capture);
     }
+    console.finish()
 }
 
-fn answer(b: &[u8], capture: &mut [u8; 8192]) {
+fn answer(console: &mut Console, b: &[u8], capture: &mut [u8; 8192]) {
     match vectors::word(b, 0) {
-        0 => print_fitted(fit_at(b)),
-        1 => print_score(score_at(b, capture)),
-        _ => load(b, capture),
+        0 => print_fitted(console, fit_at(b)),
+        1 => print_score(console, score_at(b, capture)),
+        _ => load(console, b, capture),
     }
 }
 
@@ -88,10 +92,10 @@ fn geometry_at(b: &[u8]) -> GeometryFit {
 }
 
 // The capture is read from behind the record.
-fn load(b: &[u8], capture: &mut [u8]) {
+fn load(console: &mut Console, b: &[u8], capture: &mut [u8]) {
     let n = size_at(b, 1);
     if n <= capture.len() {
-        io::read_full(0, &mut capture[..n]);
+        console.read_full(&mut capture[..n]);
     }
 }
 
@@ -140,64 +144,64 @@ fn score_at(b: &[u8], capture: &[u8]) -> GridScore {
 // ---- answers
 
 // Writes w as 16 hexadecimal digits, on a line.
-fn print_word(w: u64) {
+fn print_word(console: &mut Console, w: u64) {
     let line = vectors::hex_line(w);
-    io::write_all(1, &line);
+    console.text(&line);
 }
 
-fn print_float(x: f64) {
-    print_word(vectors::bits(x));
+fn print_float(console: &mut Console, x: f64) {
+    print_word(console, vectors::bits(x));
 }
 
-fn print_geometry(fit: GeometryFit) {
+fn print_geometry(console: &mut Console, fit: GeometryFit) {
     let h = fit.h;
     let m = h.m;
     for i in 0..9 {
-        print_float(m[i]);
+        print_float(console, m[i]);
     }
     let lens = fit.radial;
-    print_float(lens.k);
-    print_float(lens.cx);
-    print_float(lens.cy);
-    print_float(lens.norm);
+    print_float(console, lens.k);
+    print_float(console, lens.cx);
+    print_float(console, lens.cy);
+    print_float(console, lens.norm);
 }
 
-fn print_fitted(r: Fitted) {
+fn print_fitted(console: &mut Console, r: Fitted) {
     let verdict = r.verdict;
     match verdict {
         Verdict::Accepted => {
-            print_word(0);
-            print_geometry(r.fit);
+            print_word(console, 0);
+            print_geometry(console, r.fit);
         }
-        Verdict::Refused(n) => print_word(n as u64),
+        Verdict::Refused(n) => print_word(console, n as u64),
     }
 }
 
 // The original has one float: outside and too few are its −∞.
-fn print_score(r: GridScore) {
+fn print_score(console: &mut Console, r: GridScore) {
     match r {
         GridScore::Is(g) => {
-            print_word(0);
-            print_grade(g);
+            print_word(console, 0);
+            print_grade(console, g);
         }
-        GridScore::Refused(n) => print_word(n as u64),
+        GridScore::Refused(n) => print_word(console, n as u64),
     }
 }
 
-fn print_grade(g: Grade) {
+fn print_grade(console: &mut Console, g: Grade) {
     match g {
         Grade::Score(s) => {
-            print_float(s);
-            print_word(0);
+            print_float(console, s);
+            print_word(console, 0);
         }
         Grade::Outside(cell) => {
-            print_float(-1.0 / 0.0);
-            print_word(1);
-            print_word(cell as u64);
+            print_float(console, -1.0 / 0.0);
+            print_word(console, 1);
+            print_word(console, cell as u64);
         }
         Grade::TooFew => {
-            print_float(-1.0 / 0.0);
-            print_word(2);
+            print_float(console, -1.0 / 0.0);
+            print_word(console, 2);
         }
     }
 }

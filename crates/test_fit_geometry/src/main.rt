@@ -3,15 +3,18 @@
 #![tactic(auto)]
 
 use base::min;
+use console::Console;
 use fiducials::Places;
 use fit::{GeometryFit, Grade};
 use fit_geometry::PictureFit;
 use frame::{FrameSpec, Verdict};
 use search::Outcome;
+use std::io;
 
 // A record at a time, to the end of stdin. The areas are those of a capture of 200 by 200, and are
 // not cleared between two records.
-fn main() {
+fn main(rt: HostRuntime) -> io::Result<()> {
+    let mut console = Console::new(rt);
     let mut capture = [0u8; 120000];
     let mut luma = [0.0f32; 40000];
     let mut integral = [0.0; 40401];
@@ -24,12 +27,13 @@ fn main() {
     let mut means = [0.0; 2048];
     for _ in 0..1000usize {
         let mut record = [0u8; 64];
-        let n = io::read_full(0, &mut record);
+        let n = console.read_full(&mut record);
         if n < 64 {
-            return;
+            break;
         }
-        load(&record, &mut capture);
+        load(&mut console, &record, &mut capture);
         answer(
+            &mut console,
             &record,
             &capture,
             &mut luma,
@@ -43,16 +47,18 @@ fn main() {
             &mut means,
         );
     }
+    console.finish()
 }
 
 // Reads the capture behind the record.
-fn load(b: &[u8], capture: &mut [u8]) {
+fn load(console: &mut Console, b: &[u8], capture: &mut [u8]) {
     let bytes = min(size_at(b, 6), capture.len());
-    io::read_full(0, &mut capture[..bytes]);
+    console.read_full(&mut capture[..bytes]);
 }
 
 // Fits, and prints the answer.
 fn answer(
+    console: &mut Console,
     b: &[u8],
     capture: &[u8],
     luma: &mut [f32; 40000],
@@ -82,7 +88,7 @@ fn answer(
         blob_index,
         &mut means[..cells],
     );
-    print(r);
+    print(console, r);
 }
 
 // ---- arguments
@@ -106,86 +112,86 @@ fn frame_at(b: &[u8]) -> FrameSpec {
 
 // ---- answers
 
-fn print_word(w: u64) {
+fn print_word(console: &mut Console, w: u64) {
     let line = vectors::hex_line(w);
-    io::write_all(1, &line);
+    console.text(&line);
 }
 
-fn print_float(x: f64) {
-    print_word(vectors::bits(x));
+fn print_float(console: &mut Console, x: f64) {
+    print_word(console, vectors::bits(x));
 }
 
-fn print(r: PictureFit) {
+fn print(console: &mut Console, r: PictureFit) {
     let verdict = r.verdict;
     let places = r.places;
     let fit = r.fit;
     let kept = r.kept;
     match verdict {
         Verdict::Accepted => {
-            print_word(0);
-            print_counts(r.patches, r.candidates);
-            print_places(places);
-            print_fit(fit);
-            print_kept(kept);
-            print_counts(r.tried, r.homographies);
+            print_word(console, 0);
+            print_counts(console, r.patches, r.candidates);
+            print_places(console, places);
+            print_fit(console, fit);
+            print_kept(console, kept);
+            print_counts(console, r.tried, r.homographies);
         }
         Verdict::Refused(n) => {
-            print_word(n as u64);
+            print_word(console, n as u64);
             if n == 7 {
-                print_counts(r.patches, r.candidates);
+                print_counts(console, r.patches, r.candidates);
             }
         }
     }
 }
 
-fn print_counts(a: usize, b: usize) {
-    print_word(a as u64);
-    print_word(b as u64);
+fn print_counts(console: &mut Console, a: usize, b: usize) {
+    print_word(console, a as u64);
+    print_word(console, b as u64);
 }
 
-fn print_places(p: Places) {
-    print_counts(p.tl, p.tr);
-    print_counts(p.br, p.bl);
+fn print_places(console: &mut Console, p: Places) {
+    print_counts(console, p.tl, p.tr);
+    print_counts(console, p.br, p.bl);
 }
 
-fn print_fit(fit: GeometryFit) {
+fn print_fit(console: &mut Console, fit: GeometryFit) {
     let h = fit.h;
     let m = h.m;
-    print_matrix(m);
+    print_matrix(console, m);
     let lens = fit.radial;
-    print_float(lens.k);
-    print_float(lens.cx);
-    print_float(lens.cy);
-    print_float(lens.norm);
+    print_float(console, lens.k);
+    print_float(console, lens.cx);
+    print_float(console, lens.cy);
+    print_float(console, lens.norm);
 }
 
-fn print_matrix(m: [f64; 9]) {
+fn print_matrix(console: &mut Console, m: [f64; 9]) {
     for i in 0..9 {
-        print_float(m[i]);
+        print_float(console, m[i]);
     }
 }
 
-fn print_kept(o: Outcome) {
+fn print_kept(console: &mut Console, o: Outcome) {
     match o {
-        Outcome::NoHomography => print_word(1),
-        Outcome::Graded(g) => print_grade(g),
+        Outcome::NoHomography => print_word(console, 1),
+        Outcome::Graded(g) => print_grade(console, g),
     }
 }
 
 // The original's float, in which outside and too few are −∞; then the grade, and an outside one's cell.
-fn print_grade(g: Grade) {
+fn print_grade(console: &mut Console, g: Grade) {
     match g {
         Grade::Score(s) => {
-            print_float(s);
-            print_word(0);
+            print_float(console, s);
+            print_word(console, 0);
         }
         Grade::Outside(cell) => {
-            print_float(-1.0 / 0.0);
-            print_counts(1, cell);
+            print_float(console, -1.0 / 0.0);
+            print_counts(console, 1, cell);
         }
         Grade::TooFew => {
-            print_float(-1.0 / 0.0);
-            print_word(2);
+            print_float(console, -1.0 / 0.0);
+            print_word(console, 2);
         }
     }
 }

@@ -6,34 +6,39 @@
 
 ghost use Rattle.std.specs.Prelude.{◌≤◌};
 
+use console::Console;
+use std::io;
+
 const HELPERS: usize = 10;
 
-fn main() {
-    let mut buf = io::large_buffer();
-    let n = io::read_full(0, &mut buf);
-    compare_all(&buf[..n]);
+fn main(rt: HostRuntime) -> io::Result<()> {
+    let mut console = Console::new(rt);
+    let mut buf = [0u8; 65536];
+    let n = console.read_full(&mut buf);
+    compare_all(&mut console, &buf[..n]);
+    console.finish()
 }
 
 // The helpers in turn. The first words of b are their numbers of vectors.
-fn compare_all(b: &[u8]) {
+fn compare_all(console: &mut Console, b: &[u8]) {
     let mut at: usize = HELPERS;
     let mut helper: usize = 0;
     while helper < HELPERS {
         let n = vectors::word(b, helper);
         let run = compare(b, helper, at, n);
-        print_name(helper);
+        print_name(console, helper);
         if run.agree < n {
-            print_difference(b, helper, run.at, run.agree);
+            print_difference(console, b, helper, run.at, run.agree);
             return;
         }
-        io::print_decimal(1, n);
-        io::write_all(1, b"\n");
+        console.decimal(n);
+        console.text(b"\n");
         at = run.at;
         helper += 1;
     }
     // a word past the end reads as 0, so the vectors must fill the input exactly
     if at != b.len() / 8 {
-        io::write_all(1, b"the input has another length\n");
+        console.text(b"the input has another length\n");
     }
 }
 
@@ -97,39 +102,39 @@ fn answer(b: &[u8], helper: usize, p: usize) -> u64
     }
 }
 
-fn print_name(helper: usize) {
+fn print_name(console: &mut Console, helper: usize) {
     match helper {
-        0 => io::write_all(1, b"sqrt "),
-        1 => io::write_all(1, b"narrow "),
-        2 => io::write_all(1, b"round "),
-        3 => io::write_all(1, b"to_u8 "),
-        4 => io::write_all(1, b"to_usize "),
-        5 => io::write_all(1, b"abs "),
-        6 => io::write_all(1, b"signum "),
-        7 => io::write_all(1, b"widen "),
-        8 => io::write_all(1, b"max "),
-        _ => io::write_all(1, b"clamp "),
+        0 => console.text(b"sqrt "),
+        1 => console.text(b"narrow "),
+        2 => console.text(b"round "),
+        3 => console.text(b"to_u8 "),
+        4 => console.text(b"to_usize "),
+        5 => console.text(b"abs "),
+        6 => console.text(b"signum "),
+        7 => console.text(b"widen "),
+        8 => console.text(b"max "),
+        _ => console.text(b"clamp "),
     };
 }
 
 // The vector that starts at word p: its number, its words, and the helper's own answer.
-fn print_difference(b: &[u8], helper: usize, p: usize, number: u64) {
-    io::write_all(1, b"differs at ");
-    io::print_decimal(1, number);
-    io::write_all(1, b"\n");
+fn print_difference(console: &mut Console, b: &[u8], helper: usize, p: usize, number: u64) {
+    console.text(b"differs at ");
+    console.decimal(number);
+    console.text(b"\n");
     if p <= 1000000 {
         let step = words(helper);
         let mut k: usize = 0;
         while k < step {
-            print_word(vectors::word(b, p + k));
+            print_word(console, vectors::word(b, p + k));
             k += 1;
         }
-        print_word(answer(b, helper, p));
+        print_word(console, answer(b, helper, p));
     }
 }
 
 // Writes w as 16 hexadecimal digits, on a line.
-fn print_word(w: u64) {
+fn print_word(console: &mut Console, w: u64) {
     let line = vectors::hex_line(w);
-    io::write_all(1, &line);
+    console.text(&line);
 }

@@ -1,9 +1,11 @@
 // A capture file: six words, and the capture's bytes.
 ghost use Rattle.std.specs.Prelude.{◌≡◌, ◌*◌, ◌≤◌, ◌<◌};
-ghost use Rattle.io.specs.Counts.{IsPrefixLen};
+ghost use Rattle.std.specs.Io.{ReadsAtMost};
 ghost use Rattle.test_geometry.specs.Files.{HeadedBy};
 
 use frame::FrameSpec;
+use std::fs::File;
+use std::{io, str};
 
 // What the words say, with the number of pixels of the capture and of bytes of the canonical image.
 #[derive(Clone, Copy)]
@@ -16,21 +18,24 @@ pub struct Sizes {
 }
 
 // Reads the file of this number, from 0 to 99: its six words, and its capture's bytes to the start
-// of `capture`. Answers how many those are. Where there is no such file, nothing is read.
-pub fn read(number: usize, head: &mut [u8; 48], capture: &mut [u8; 120001]) -> usize
-    ensures { IsPrefixLen result capture.new }
+// of `capture`. Answers how many those are.
+pub fn read(
+    rt: &HostRuntime,
+    number: usize,
+    head: &mut [u8; 48],
+    capture: &mut [u8; 120001],
+) -> io::Result<usize>
+    ensures { ReadsAtMost result capture.new }
 {
-    let fd = open(number);
-    io::read_full(fd, head);
-    let n = io::read_full(fd, capture);
-    libc::close(fd);
-    n
+    let mut file = open(rt, number)?;
+    console::read_full(&mut file, head)?;
+    console::read_full(&mut file, capture)
 }
 
-fn open(number: usize) -> i32 {
+fn open(rt: &HostRuntime, number: usize) -> io::Result<File> {
     if number < 10 {
         let name = [digit(number), b'.', b'c', b'a', b'p'];
-        return os::open_read(&name);
+        return File::open(rt, str::from_utf8(&name).unwrap());
     }
     let name = [
         digit(number / 10 % 10),
@@ -40,11 +45,12 @@ fn open(number: usize) -> i32 {
         b'a',
         b'p',
     ];
-    os::open_read(&name)
+    File::open(rt, str::from_utf8(&name).unwrap())
 }
 
 fn digit(n: usize) -> u8
     requires { n < 10 }
+    ensures { result < 128 }
 {
     b'0' + n as u8
 }

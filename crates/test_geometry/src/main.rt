@@ -18,14 +18,19 @@
 mod file; // file.rt: a capture file
 mod print; // print.rt: an answer's lines
 
-fn main() {
-    answer_all(65);
+use console::Console;
+use std::io;
+
+fn main(rt: HostRuntime) -> io::Result<()> {
+    let mut console = Console::new(rt);
+    answer_all(&rt, &mut console, 65)?;
+    console.finish()
 }
 
 // Rectifies the captures 0.cap, 1.cap .. of the folder that the program is run in, and prints each
 // answer. The areas are those of a capture of 200 by 200 pixels under a frame of 600 by 600, and
 // are not cleared between two captures.
-fn answer_all(count: usize) {
+fn answer_all(rt: &HostRuntime, console: &mut Console, count: usize) -> io::Result<()> {
     let mut head = [0u8; 48];
     let mut capture = [0u8; 120001];
     let mut luma = [0.0f32; 40000];
@@ -39,8 +44,9 @@ fn answer_all(count: usize) {
     let mut means = [0.0; 2048];
     let mut canonical = [0u8; 1080000];
     for number in 0..count {
-        let n = file::read(number, &mut head, &mut capture);
+        let n = file::read(rt, number, &mut head, &mut capture)?;
         answer(
+            console,
             number,
             &head,
             &capture[..n],
@@ -56,10 +62,12 @@ fn answer_all(count: usize) {
             &mut canonical,
         );
     }
+    Ok(())
 }
 
 // Rectifies one capture, and prints its answer.
 fn answer(
+    console: &mut Console,
     number: usize,
     head: &[u8; 48],
     capture: &[u8],
@@ -75,7 +83,7 @@ fn answer(
     canonical: &mut [u8; 1080000],
 ) {
     let s = file::headed(head);
-    print::head(number, s);
+    print::head(console, number, s);
     let frame = s.frame;
     let bytes = s.bytes;
     let card: &mut [u8] = canonical;
@@ -95,12 +103,12 @@ fn answer(
         means,
         &mut card[..bytes],
     );
-    let refusal = print::answer(r, s, mask, patches, candidates, blob_index, card);
+    let refusal = print::answer(console, r, s, mask, patches, candidates, blob_index, card);
     if refusal == 16 {
         let fit = fit_geometry::fit_geometry(
             capture, s.w, s.h, frame, luma, integral, mask, seen, waiting, patches, candidates,
             blob_index, means,
         );
-        print::fitted(fit);
+        print::fitted(console, fit);
     }
 }

@@ -4,28 +4,32 @@
 
 ghost use Rattle.std.specs.Prelude.{◌<◌};
 
+use console::Console;
 use frame::{Point, Quad, Verdict};
 use homography::{Homography, Solved};
+use std::io;
 
 // A record at a time, to the end of stdin.
-fn main() {
+fn main(rt: HostRuntime) -> io::Result<()> {
+    let mut console = Console::new(rt);
     for _ in 0..10000usize {
         let mut record = [0u8; 152];
-        let n = io::read_full(0, &mut record);
+        let n = console.read_full(&mut record);
         if n < 152 {
-            return;
+            break;
         }
-        answer(&record);
+        answer(&mut console, &record);
     }
+    console.finish()
 }
 
-fn answer(b: &[u8]) {
+fn answer(console: &mut Console, b: &[u8]) {
     match vectors::word(b, 0) {
-        0 => print_solved(Homography::from_points(quad(b, 1), quad(b, 9))),
-        1 => print_solved(homography_at(b).inverse()),
-        2 => print_point(homography_at(b).apply(point(b, 10))),
-        3 => print_matrix(homography::mat3_mul(&matrix(b, 1), &matrix(b, 10))),
-        _ => print_float(homography::rms_error(quad(b, 1), quad(b, 9))),
+        0 => print_solved(console, Homography::from_points(quad(b, 1), quad(b, 9))),
+        1 => print_solved(console, homography_at(b).inverse()),
+        2 => print_point(console, homography_at(b).apply(point(b, 10))),
+        3 => print_matrix(console, homography::mat3_mul(&matrix(b, 1), &matrix(b, 10))),
+        _ => print_float(console, homography::rms_error(quad(b, 1), quad(b, 9))),
     }
 }
 
@@ -74,35 +78,35 @@ fn homography_at(b: &[u8]) -> Homography {
 
 // ---- answers
 
-fn print_float(x: f64) {
-    print_word(vectors::bits(x));
+fn print_float(console: &mut Console, x: f64) {
+    print_word(console, vectors::bits(x));
 }
 
-fn print_point(p: Point) {
-    print_float(p.x);
-    print_float(p.y);
+fn print_point(console: &mut Console, p: Point) {
+    print_float(console, p.x);
+    print_float(console, p.y);
 }
 
-fn print_matrix(m: [f64; 9]) {
+fn print_matrix(console: &mut Console, m: [f64; 9]) {
     for j in 0..9 {
-        print_float(m[j]);
+        print_float(console, m[j]);
     }
 }
 
 // The refusal's number, 0 where there is none, and the matrix.
-fn print_solved(s: Solved) {
+fn print_solved(console: &mut Console, s: Solved) {
     let verdict = s.verdict;
     match verdict {
-        Verdict::Accepted => print_word(0),
-        Verdict::Refused(n) => print_word(n as u64),
+        Verdict::Accepted => print_word(console, 0),
+        Verdict::Refused(n) => print_word(console, n as u64),
     }
     let h = s.h;
     let m = h.m;
-    print_matrix(m);
+    print_matrix(console, m);
 }
 
 // Writes w as 16 hexadecimal digits, on a line.
-fn print_word(w: u64) {
+fn print_word(console: &mut Console, w: u64) {
     let line = vectors::hex_line(w);
-    io::write_all(1, &line);
+    console.text(&line);
 }

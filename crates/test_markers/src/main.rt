@@ -5,109 +5,111 @@
 
 ghost use Rattle.std.specs.Prelude.{◌≡◌, ◌*◌, ◌<◌, ◌≤◌, length};
 
+use console::Console;
 use frame::{FrameSpec, Framed, Number, Point, Quad, Rgb, Verdict};
 use markers::Centers;
+use std::io;
 
-fn text(s: &[u8]) {
-    io::write_all(1, s);
+fn text(console: &mut Console, s: &[u8]) {
+    console.text(s);
 }
 
-fn number(n: usize) {
-    io::print_decimal(1, n as u64);
+fn number(console: &mut Console, n: usize) {
+    console.decimal(n as u64);
 }
 
-fn refused(n: u32) {
-    text(b"refused ");
-    number(n as usize);
+fn refused(console: &mut Console, n: u32) {
+    text(console, b"refused ");
+    number(console, n as usize);
 }
 
-fn print_number(n: Number) {
+fn print_number(console: &mut Console, n: Number) {
     match n {
-        Number::Is(v) => number(v),
-        Number::Refused(k) => refused(k),
+        Number::Is(v) => number(console, v),
+        Number::Refused(k) => refused(console, k),
     }
 }
 
-fn print_frame(f: Framed) {
+fn print_frame(console: &mut Console, f: Framed) {
     match f {
         Framed::Is(s) => {
-            number(s.width);
-            text(b" ");
-            number(s.height);
-            text(b" ");
-            number(s.cell);
-            text(b" ");
-            number(s.margin);
+            number(console, s.width);
+            text(console, b" ");
+            number(console, s.height);
+            text(console, b" ");
+            number(console, s.cell);
+            text(console, b" ");
+            number(console, s.margin);
         }
-        Framed::Refused(k) => refused(k),
+        Framed::Refused(k) => refused(console, k),
     }
 }
 
-fn print_point(p: Point) {
-    print_word(vectors::bits(p.x));
-    print_word(vectors::bits(p.y));
+fn print_point(console: &mut Console, p: Point) {
+    print_word(console, vectors::bits(p.x));
+    print_word(console, vectors::bits(p.y));
 }
 
-fn print_quad(q: Quad) {
-    print_point(q.tl);
-    print_point(q.tr);
-    print_point(q.br);
-    print_point(q.bl);
+fn print_quad(console: &mut Console, q: Quad) {
+    print_point(console, q.tl);
+    print_point(console, q.tr);
+    print_point(console, q.br);
+    print_point(console, q.bl);
 }
 
-fn print_rgb(c: Rgb) {
-    text(b" ");
-    number(c.r as usize);
-    text(b" ");
-    number(c.g as usize);
-    text(b" ");
-    number(c.b as usize);
+fn print_rgb(console: &mut Console, c: Rgb) {
+    text(console, b" ");
+    number(console, c.r as usize);
+    text(console, b" ");
+    number(console, c.g as usize);
+    text(console, b" ");
+    number(console, c.b as usize);
 }
 
-fn constants() {
-    number(FrameSpec::CALIB_ROWS);
-    text(b" ");
-    number(FrameSpec::HEADER_ROWS);
-    text(b" ");
-    number(markers::MARKER_MIN_PX);
-    text(b" ");
-    number(markers::MARKER_MAX_PX);
-    print_rgb(frame::BLACK);
-    print_rgb(frame::WHITE);
-    text(b"\n");
-    print_word(vectors::bits(markers::MARKER_UNITS));
+fn constants(console: &mut Console) {
+    number(console, FrameSpec::CALIB_ROWS);
+    text(console, b" ");
+    number(console, FrameSpec::HEADER_ROWS);
+    text(console, b" ");
+    number(console, markers::MARKER_MIN_PX);
+    text(console, b" ");
+    number(console, markers::MARKER_MAX_PX);
+    print_rgb(console, frame::BLACK);
+    print_rgb(console, frame::WHITE);
+    text(console, b"\n");
+    print_word(console, vectors::bits(markers::MARKER_UNITS));
 }
 
-fn sizes(cell: usize) {
-    print_number(markers::marker_size(cell));
-    text(b" ");
-    print_number(markers::quiet_zone(cell));
-    text(b" ");
-    print_number(markers::margin_for(cell));
-    text(b"\n");
+fn sizes(console: &mut Console, cell: usize) {
+    print_number(console, markers::marker_size(cell));
+    text(console, b" ");
+    print_number(console, markers::quiet_zone(cell));
+    text(console, b" ");
+    print_number(console, markers::margin_for(cell));
+    text(console, b"\n");
 }
 
-fn made(width: usize, height: usize, cell: usize) {
-    print_frame(FrameSpec::new(width, height, cell));
-    text(b" ");
-    print_frame(markers::frame_spec(width, height, cell));
-    text(b"\n");
+fn made(console: &mut Console, width: usize, height: usize, cell: usize) {
+    print_frame(console, FrameSpec::new(width, height, cell));
+    text(console, b" ");
+    print_frame(console, markers::frame_spec(width, height, cell));
+    text(console, b"\n");
 }
 
-fn grid(f: FrameSpec) {
-    print_number(f.cols());
-    text(b" ");
-    print_number(f.rows());
-    text(b"\n");
+fn grid(console: &mut Console, f: FrameSpec) {
+    print_number(console, f.cols());
+    text(console, b" ");
+    print_number(console, f.rows());
+    text(console, b"\n");
 }
 
-fn centers(f: FrameSpec) {
+fn centers(console: &mut Console, f: FrameSpec) {
     let answer = markers::marker_centers(f);
     match answer {
-        Centers::Are(q) => print_quad(q),
+        Centers::Are(q) => print_quad(console, q),
         Centers::Refused(k) => {
-            refused(k);
-            text(b"\n");
+            refused(console, k);
+            text(console, b"\n");
         }
     }
 }
@@ -139,7 +141,7 @@ fn checksum(picture: &[u8]) -> u64 {
 }
 
 // # for a black pixel, . for a white one, + for any other
-fn print_pixel(picture: &[u8], at: usize)
+fn print_pixel(console: &mut Console, picture: &[u8], at: usize)
     requires { at < length picture.now }
 {
     if picture.len() - at < 3 {
@@ -149,30 +151,30 @@ fn print_pixel(picture: &[u8], at: usize)
     let g = picture[at + 1];
     let b = picture[at + 2];
     if (r == 0) & (g == 0) & (b == 0) {
-        text(b"#");
+        text(console, b"#");
         return;
     }
     if (r == 255) & (g == 255) & (b == 255) {
-        text(b".");
+        text(console, b".");
         return;
     }
-    text(b"+");
+    text(console, b"+");
 }
 
-fn print_row(row: &[u8]) {
+fn print_row(console: &mut Console, row: &[u8]) {
     let mut at: usize = 0;
     while at < row.len() {
-        print_pixel(row, at);
+        print_pixel(console, row, at);
         if row.len() - at < 3 {
             return;
         }
         at += 3;
     }
-    text(b"\n");
+    text(console, b"\n");
 }
 
 // The picture's row y, where it has one.
-fn print_row_of(picture: &[u8], w: usize, h: usize, y: usize) {
+fn print_row_of(console: &mut Console, picture: &[u8], w: usize, h: usize, y: usize) {
     if 4096 < w {
         return;
     }
@@ -185,22 +187,22 @@ fn print_row_of(picture: &[u8], w: usize, h: usize, y: usize) {
     let from = 3 * w * y;
     let to = 3 * w * (y + 1);
     if to <= picture.len() {
-        print_row(&picture[from..to]);
+        print_row(console, &picture[from..to]);
     }
 }
 
-fn stamp(picture: &mut [u8], w: usize, h: usize, f: FrameSpec, y: usize) {
+fn stamp(console: &mut Console, picture: &mut [u8], w: usize, h: usize, f: FrameSpec, y: usize) {
     pattern(picture);
     let answer = markers::stamp_fiducials(picture, w, h, f);
     match answer {
-        Verdict::Accepted => text(b"accepted"),
-        Verdict::Refused(k) => refused(k),
+        Verdict::Accepted => text(console, b"accepted"),
+        Verdict::Refused(k) => refused(console, k),
     }
-    text(b" ");
-    io::print_decimal(1, checksum(picture));
-    text(b"\n");
+    text(console, b" ");
+    console.decimal(checksum(picture));
+    text(console, b"\n");
     if let Verdict::Accepted = answer {
-        print_row_of(picture, w, h, y);
+        print_row_of(console, picture, w, h, y);
     }
 }
 
@@ -210,7 +212,7 @@ fn field(input: &[u8], entry: usize, k: usize) -> usize
     vectors::word(input, entry * 9 + k) as usize
 }
 
-fn run(input: &[u8], entry: usize, picture: &mut [u8])
+fn run(console: &mut Console, input: &[u8], entry: usize, picture: &mut [u8])
     requires { entry * 72 ≤ length input.now }
 {
     let kind = field(input, entry, 0);
@@ -221,24 +223,25 @@ fn run(input: &[u8], entry: usize, picture: &mut [u8])
         margin: field(input, entry, 7),
     };
     if kind == 0 {
-        sizes(f.cell);
+        sizes(console, f.cell);
     }
     if kind == 1 {
-        made(f.width, f.height, f.cell);
+        made(console, f.width, f.height, f.cell);
     }
     if kind == 2 {
-        grid(f);
+        grid(console, f);
     }
     if kind == 3 {
-        centers(f);
+        centers(console, f);
     }
     if kind == 5 {
-        constants();
+        constants(console);
     }
     if kind == 4 {
         let len = field(input, entry, 3);
         if len <= picture.len() {
             stamp(
+                console,
                 &mut picture[..len],
                 field(input, entry, 1),
                 field(input, entry, 2),
@@ -249,21 +252,23 @@ fn run(input: &[u8], entry: usize, picture: &mut [u8])
     }
 }
 
-fn run_all(input: &[u8], picture: &mut [u8]) {
+fn run_all(console: &mut Console, input: &[u8], picture: &mut [u8]) {
     for entry in 0..input.len() / 72 {
-        run(input, entry, picture);
+        run(console, input, entry, picture);
     }
 }
 
-fn main() {
-    let mut input = io::large_buffer();
-    let n = io::read_full(0, &mut input);
+fn main(rt: HostRuntime) -> io::Result<()> {
+    let mut console = Console::new(rt);
+    let mut input = [0u8; 65536];
+    let n = console.read_full(&mut input);
     let mut picture = [0u8; 132000];
-    run_all(&input[..n], &mut picture);
+    run_all(&mut console, &input[..n], &mut picture);
+    console.finish()
 }
 
 // Writes w as 16 hexadecimal digits, on a line.
-fn print_word(w: u64) {
+fn print_word(console: &mut Console, w: u64) {
     let line = vectors::hex_line(w);
-    io::write_all(1, &line);
+    console.text(&line);
 }

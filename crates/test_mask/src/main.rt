@@ -5,18 +5,22 @@
 
 ghost use Rattle.std.specs.Prelude.{◌≤◌, ◌≡◌, length};
 
+use console::Console;
 use frame::FrameSpec;
+use std::io;
 
-fn main() {
-    let mut buf = io::large_buffer();
-    let n = io::read_full(0, &mut buf);
+fn main(rt: HostRuntime) -> io::Result<()> {
+    let mut console = Console::new(rt);
+    let mut buf = [0u8; 65536];
+    let n = console.read_full(&mut buf);
     if n == 4320 {
-        planes(&buf[..n]);
+        planes(&mut console, &buf[..n]);
     }
+    console.finish()
 }
 
 // Each area has eight entries more than it needs, and holds what no plane has.
-fn planes(capture: &[u8])
+fn planes(console: &mut Console, capture: &[u8])
     requires { length capture.now ≡ 4320 }
 {
     let mut luma = [1.0f32; 1448];
@@ -29,45 +33,45 @@ fn planes(capture: &[u8])
         margin: 48,
     };
     mask::internal::planes(capture, 40, 36, frame, &mut luma, &mut integral, &mut mask);
-    print_luma(&luma);
-    print_integral(&integral[1476..]);
-    print_mask(&mask);
+    print_luma(console, &luma);
+    print_integral(console, &integral[1476..]);
+    print_mask(console, &mask);
 }
 
-fn print_luma(luma: &[f32]) {
+fn print_luma(console: &mut Console, luma: &[f32]) {
     for i in 0..luma.len() {
-        io::print_hex(1, vectors::bits32(luma[i]) as u64, 8);
-        io::write_all(1, b"\n");
+        console.hex(vectors::bits32(luma[i]) as u64, 8);
+        console.text(b"\n");
     }
 }
 
-fn print_integral(integral: &[f64]) {
+fn print_integral(console: &mut Console, integral: &[f64]) {
     for i in 0..integral.len() {
-        print_word(vectors::bits(integral[i]));
+        print_word(console, vectors::bits(integral[i]));
     }
 }
 
 // A line for each row, and one for what is left.
-fn print_mask(mask: &[u8]) {
+fn print_mask(console: &mut Console, mask: &[u8]) {
     for i in 0..mask.len() {
-        print_entry(mask[i]);
+        print_entry(console, mask[i]);
         if i % 40 == 39 {
-            io::write_all(1, b"\n");
+            console.text(b"\n");
         }
     }
-    io::write_all(1, b"\n");
+    console.text(b"\n");
 }
 
-fn print_entry(entry: u8) {
+fn print_entry(console: &mut Console, entry: u8) {
     match entry {
-        0 => io::write_all(1, b"."),
-        1 => io::write_all(1, b"#"),
-        _ => io::print_decimal(1, entry as u64),
+        0 => console.text(b"."),
+        1 => console.text(b"#"),
+        _ => console.decimal(entry as u64),
     };
 }
 
 // Writes w as 16 hexadecimal digits, on a line.
-fn print_word(w: u64) {
+fn print_word(console: &mut Console, w: u64) {
     let line = vectors::hex_line(w);
-    io::write_all(1, &line);
+    console.text(&line);
 }

@@ -7,54 +7,58 @@ ghost use Rattle.std.specs.Prelude.{◌≡◌, ℕ, min, length, get_or};
 ghost use Rattle.base.specs.Loops.{filled};
 
 use base::min;
+use console::Console;
+use std::io;
 
 // An input at a time, to the end of stdin. None is longer than 255 bytes.
-fn main() {
+fn main(rt: HostRuntime) -> io::Result<()> {
+    let mut console = Console::new(rt);
     let mut text = [0u8; 255];
     for _ in 0..10000usize {
         let mut head = [0u8; 2];
-        let n = io::read_full(0, &mut head);
+        let n = console.read_full(&mut head);
         if n < 2 {
-            return;
+            break;
         }
-        call(head[0], wide(head[1]), &mut text);
+        call(&mut console, head[0], wide(head[1]), &mut text);
     }
+    console.finish()
 }
 
 fn wide(x: u8) -> usize {
     x as usize
 }
 
-fn call(kind: u8, length: usize, text: &mut [u8]) {
+fn call(console: &mut Console, kind: u8, length: usize, text: &mut [u8]) {
     let n = min(length, text.len());
-    answer(kind, &mut text[..n]);
+    answer(console, kind, &mut text[..n]);
 }
 
-fn answer(kind: u8, text: &mut [u8]) {
-    io::read_full(0, text);
+fn answer(console: &mut Console, kind: u8, text: &mut [u8]) {
+    console.read_full(text);
     let mut input = [0u8; checkerboard_text::internal::INPUT_LENGTH];
     let n = copy(text, &mut input);
     let mut out = [0u8; checkerboard_text::internal::OUTPUT_LENGTH];
     let k = checkerboard_text::internal::answer(&input, n, &mut out);
     if kind == b'm' {
-        io::write_all(1, &out[..k]);
+        console.text(&out[..k]);
     } else {
-        count(&out[..k]);
+        count(console, &out[..k]);
     }
 }
 
 // Prints the first line of what `patches` prints for a text.
-fn count(text: &[u8]) {
+fn count(console: &mut Console, text: &[u8]) {
     let mut input = [0u8; patch_text::internal::INPUT_LENGTH];
     let n = copy(text, &mut input);
     let mut out = [0u8; patch_text::internal::OUTPUT_LENGTH];
     let k = patch_text::internal::answer(&input, n, &mut out);
-    print_line(&out[..k]);
+    print_line(console, &out[..k]);
 }
 
-fn print_line(text: &[u8]) {
+fn print_line(console: &mut Console, text: &[u8]) {
     let end = min(patch_text::internal::line_length(text) + 1, text.len());
-    io::write_all(1, &text[..end]);
+    console.text(&text[..end]);
 }
 
 // Of a text as much as a program reads: as many bytes as fit, or all.

@@ -9,49 +9,59 @@ ghost use Rattle.std.specs.Prelude.{◌≡◌};
 ghost use Rattle.test_page.specs.Calls.{over_and_over, tildes};
 
 use base::{max, min};
+use console::Console;
 use page::candidate_page;
+use std::io;
 
 // A call at a time, to the end of stdin. The areas hold the longest list and the longest page.
-fn main() {
+fn main(rt: HostRuntime) -> io::Result<()> {
+    let mut console = Console::new(rt);
     let mut list = [0.0; 40004];
     let mut area = [0u8; 370037];
     for number in 0..10000usize {
         let mut head = [0u8; 40];
-        let n = io::read_full(0, &mut head);
+        let n = console.read_full(&mut head);
         if n < 40 {
-            return;
+            break;
         }
-        call(number, &head, &mut list, &mut area);
+        call(&mut console, number, &head, &mut list, &mut area);
     }
+    console.finish()
 }
 
 // The call that five words describe, on as much of both areas as it is lent.
-fn call(number: usize, head: &[u8], list: &mut [f64], area: &mut [u8]) {
+fn call(console: &mut Console, number: usize, head: &[u8], list: &mut [f64], area: &mut [u8]) {
     let listed = min(size_at(head, 1), list.len());
     let room = min(size_at(head, 2), area.len());
-    answer(number, head, &mut list[..listed], &mut area[..room]);
+    answer(
+        console,
+        number,
+        head,
+        &mut list[..listed],
+        &mut area[..room],
+    );
 }
 
 // The list has the first floats behind the words over and over, but the others at its end.
-fn answer(number: usize, head: &[u8], list: &mut [f64], area: &mut [u8]) {
-    load(size_at(head, 3), list);
+fn answer(console: &mut Console, number: usize, head: &[u8], list: &mut [f64], area: &mut [u8]) {
+    load(console, size_at(head, 3), list);
     let last = min(size_at(head, 4), list.len());
     let start = list.len() - last;
-    load(last, &mut list[start..]);
+    load(console, last, &mut list[start..]);
     clear(area);
     let verdict = candidate_page(list, size_at(head, 0), area);
-    print::answer(number, verdict, area);
+    print::answer(console, number, verdict, area);
 }
 
 // Reads n floats, and fills the list with them.
-fn load(n: usize, list: &mut [f64]) {
+fn load(console: &mut Console, n: usize, list: &mut [f64]) {
     let mut words = [0u8; 16384];
     let end = 8 * min(n, 2048);
-    read(&mut words[..end], list);
+    read(console, &mut words[..end], list);
 }
 
-fn read(words: &mut [u8], list: &mut [f64]) {
-    io::read_full(0, words);
+fn read(console: &mut Console, words: &mut [u8], list: &mut [f64]) {
+    console.read_full(words);
     fill(list, words);
 }
 

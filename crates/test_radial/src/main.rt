@@ -2,26 +2,30 @@
 // host/vectors/src/bin/radial.rs says what stdin and stdout hold, and how to make them again.
 #![tactic(auto)]
 
+use console::Console;
 use frame::Point;
 use radial::{Lens, Radial};
+use std::io;
 
 // A record at a time, to the end of stdin.
-fn main() {
+fn main(rt: HostRuntime) -> io::Result<()> {
+    let mut console = Console::new(rt);
     for _ in 0..10000usize {
         let mut record = [0u8; 56];
-        let n = io::read_full(0, &mut record);
+        let n = console.read_full(&mut record);
         if n < 56 {
-            return;
+            break;
         }
-        answer(&record);
+        answer(&mut console, &record);
     }
+    console.finish()
 }
 
-fn answer(b: &[u8]) {
+fn answer(console: &mut Console, b: &[u8]) {
     match vectors::word(b, 0) {
-        0 => print_lens(lens_at(b)),
-        1 => print_point(radial_at(b).distort(point_at(b))),
-        _ => print_point(radial_at(b).undistort(point_at(b))),
+        0 => print_lens(console, lens_at(b)),
+        1 => print_point(console, radial_at(b).distort(point_at(b))),
+        _ => print_point(console, radial_at(b).undistort(point_at(b))),
     }
 }
 
@@ -58,31 +62,31 @@ fn point_at(b: &[u8]) -> Point {
 
 // ---- answers
 
-fn print_float(x: f64) {
-    print_word(vectors::bits(x));
+fn print_float(console: &mut Console, x: f64) {
+    print_word(console, vectors::bits(x));
 }
 
-fn print_point(p: Point) {
-    print_float(p.x);
-    print_float(p.y);
+fn print_point(console: &mut Console, p: Point) {
+    print_float(console, p.x);
+    print_float(console, p.y);
 }
 
 // The refusal's number alone, or 0 and the lens.
-fn print_lens(l: Lens) {
+fn print_lens(console: &mut Console, l: Lens) {
     match l {
         Lens::Is(r) => {
-            print_word(0);
-            print_float(r.k);
-            print_float(r.cx);
-            print_float(r.cy);
-            print_float(r.norm);
+            print_word(console, 0);
+            print_float(console, r.k);
+            print_float(console, r.cx);
+            print_float(console, r.cy);
+            print_float(console, r.norm);
         }
-        Lens::Refused(n) => print_word(n as u64),
+        Lens::Refused(n) => print_word(console, n as u64),
     }
 }
 
 // Writes w as 16 hexadecimal digits, on a line.
-fn print_word(w: u64) {
+fn print_word(console: &mut Console, w: u64) {
     let line = vectors::hex_line(w);
-    io::write_all(1, &line);
+    console.text(&line);
 }

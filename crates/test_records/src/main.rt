@@ -14,45 +14,49 @@ ghost use Rattle.records.specs.Records.{no_patch, no_candidate, patch_in, candid
 use base::min;
 use blobs::Blob;
 use candidates::Candidate;
+use console::Console;
 use frame::{FrameSpec, Point, Rgb, Verdict};
+use std::io;
 use view::Pixel;
 use view::internal::pixel_at;
 
-fn main() {
+fn main(rt: HostRuntime) -> io::Result<()> {
+    let mut console = Console::new(rt);
     let mut mask = [0u8; 9];
-    io::read_full(0, &mut mask);
-    label(&mask);
+    console.read_full(&mut mask);
+    label(&mut console, &mask);
     let mut picture = [0u8; 27];
-    io::read_full(0, &mut picture);
-    print_pixels(&picture);
+    console.read_full(&mut picture);
+    print_pixels(&mut console, &picture);
     let mut capture = [0u8; 12288];
-    io::read_full(0, &mut capture);
-    find(&capture);
+    console.read_full(&mut capture);
+    find(&mut console, &capture);
+    console.finish()
 }
 
-fn label(mask: &[u8]) {
+fn label(console: &mut Console, mask: &[u8]) {
     let mut seen = [0u8; 9];
     let mut waiting = [0u32; 9];
     let mut patches = [0u64; 40];
     let l = blobs::label_blobs(mask, 3, 3, &mut seen, &mut waiting, &mut patches);
     let verdict = l.verdict;
     match verdict {
-        Verdict::Accepted => print_patches(&patches, l.patches),
-        Verdict::Refused(n) => print_refusal(n),
+        Verdict::Accepted => print_patches(console, &patches, l.patches),
+        Verdict::Refused(n) => print_refusal(console, n),
     }
 }
 
-fn print_pixels(picture: &[u8]) {
+fn print_pixels(console: &mut Console, picture: &[u8]) {
     for p in 0..9 {
-        print_pixel(pixel_at(picture, 3, 3, p % 3, p / 3));
+        print_pixel(console, pixel_at(picture, 3, 3, p % 3, p / 3));
     }
-    print_pixel(pixel_at(picture, 3, 3, 3, 0));
-    print_pixel(pixel_at(picture, 3, 3, 0, 3));
-    print_pixel(pixel_at(picture, 3, 2, 0, 0));
-    print_pixel(pixel_at(picture, 0, 3, 0, 0));
+    print_pixel(console, pixel_at(picture, 3, 3, 3, 0));
+    print_pixel(console, pixel_at(picture, 3, 3, 0, 3));
+    print_pixel(console, pixel_at(picture, 3, 2, 0, 0));
+    print_pixel(console, pixel_at(picture, 0, 3, 0, 0));
 }
 
-fn find(capture: &[u8]) {
+fn find(console: &mut Console, capture: &[u8]) {
     let frame = FrameSpec {
         width: 192,
         height: 192,
@@ -83,13 +87,13 @@ fn find(capture: &[u8]) {
     );
     let verdict = l.verdict;
     match verdict {
-        Verdict::Accepted => print_candidates(&candidates, &blob_index, l.candidates),
-        Verdict::Refused(n) => print_refusal(n),
+        Verdict::Accepted => print_candidates(console, &candidates, &blob_index, l.candidates),
+        Verdict::Refused(n) => print_refusal(console, n),
     }
 }
 
-// ---- the slices of records: arrays by value, lent to the crate's store and fetch. Only these four
-// functions lend them, so only they are proved by a walk.
+// ---- the slices of records: arrays by value, lent to the crate's store and fetch by these four
+// functions.
 
 fn stored_patch(list: [Blob; 5], patches: &[u64], j: usize) -> [Blob; 5]
     requires { (j < 5) × (record_length * (j + 1) ≤ length patches.now) }
@@ -173,99 +177,99 @@ fn keep_candidates(candidates: &[f64], blob_index: &[u32], n: usize) -> [Candida
 
 // ---- printing
 
-fn text(s: &[u8]) {
-    io::write_all(1, s);
+fn text(console: &mut Console, s: &[u8]) {
+    console.text(s);
 }
 
-fn number(n: u64) {
-    io::print_decimal(1, n);
+fn number(console: &mut Console, n: u64) {
+    console.decimal(n);
 }
 
-fn spaced(n: u64) {
-    text(b" ");
-    number(n);
+fn spaced(console: &mut Console, n: u64) {
+    text(console, b" ");
+    number(console, n);
 }
 
-fn float(x: f64) {
-    io::print_hex(1, vectors::bits(x), 16);
-    text(b" ");
+fn float(console: &mut Console, x: f64) {
+    console.hex(vectors::bits(x), 16);
+    text(console, b" ");
 }
 
-fn print_patches(patches: &[u64], n: usize)
+fn print_patches(console: &mut Console, patches: &[u64], n: usize)
     requires { 40 ≤ length patches.now }
 {
-    text(b"3 3 ");
-    number(n as u64);
-    text(b"\n");
-    fetch_patches(patches, min(n, 5));
+    text(console, b"3 3 ");
+    number(console, n as u64);
+    text(console, b"\n");
+    fetch_patches(console, patches, min(n, 5));
 }
 
-fn fetch_patches(patches: &[u64], n: usize)
+fn fetch_patches(console: &mut Console, patches: &[u64], n: usize)
     requires { (n ≤ 5) × (40 ≤ length patches.now) }
 {
     let list = keep_patches(patches, n);
     for j in 0..n {
-        print_patch(fetched_patch(list, j));
+        print_patch(console, fetched_patch(list, j));
     }
 }
 
-fn print_patch(b: Blob) {
-    number(b.area);
-    spaced(b.sx);
-    spaced(b.sy);
-    spaced(b.x0);
-    spaced(b.y0);
-    spaced(b.x1);
-    spaced(b.y1);
-    spaced(b.outline);
-    text(b"\n");
+fn print_patch(console: &mut Console, b: Blob) {
+    number(console, b.area);
+    spaced(console, b.sx);
+    spaced(console, b.sy);
+    spaced(console, b.x0);
+    spaced(console, b.y0);
+    spaced(console, b.x1);
+    spaced(console, b.y1);
+    spaced(console, b.outline);
+    text(console, b"\n");
 }
 
-fn print_candidates(candidates: &[f64], blob_index: &[u32], n: usize)
+fn print_candidates(console: &mut Console, candidates: &[f64], blob_index: &[u32], n: usize)
     requires { (20 ≤ length candidates.now) × (5 ≤ length blob_index.now) }
 {
-    text(b"64 64 ");
-    number(n as u64);
-    text(b"\n");
-    fetch_candidates(candidates, blob_index, min(n, 5));
+    text(console, b"64 64 ");
+    number(console, n as u64);
+    text(console, b"\n");
+    fetch_candidates(console, candidates, blob_index, min(n, 5));
 }
 
-fn fetch_candidates(candidates: &[f64], blob_index: &[u32], n: usize)
+fn fetch_candidates(console: &mut Console, candidates: &[f64], blob_index: &[u32], n: usize)
     requires { (n ≤ 5) × (20 ≤ length candidates.now) × (5 ≤ length blob_index.now) }
 {
     let list = keep_candidates(candidates, blob_index, n);
     for i in 0..n {
-        print_candidate(fetched_candidate(list, i));
+        print_candidate(console, fetched_candidate(list, i));
     }
 }
 
-fn print_candidate(c: Candidate) {
+fn print_candidate(console: &mut Console, c: Candidate) {
     let center = c.center;
-    float(center.x);
-    float(center.y);
-    float(c.score);
-    float(c.size);
-    number(c.blob_index as u64);
-    text(b"\n");
+    float(console, center.x);
+    float(console, center.y);
+    float(console, c.score);
+    float(console, c.size);
+    number(console, c.blob_index as u64);
+    text(console, b"\n");
 }
 
-fn print_colour(c: Rgb) {
-    number(c.r as u64);
-    spaced(c.g as u64);
-    spaced(c.b as u64);
-    text(b"\n");
+fn print_colour(console: &mut Console, c: Rgb) {
+    number(console, c.r as u64);
+    spaced(console, c.g as u64);
+    spaced(console, c.b as u64);
+    text(console, b"\n");
 }
 
-fn print_refusal(n: u32) {
-    text(b"refused ");
-    number(n as u64);
-    text(b"\n");
+fn print_refusal(console: &mut Console, n: u32) {
+    text(console, b"refused ");
+    number(console, n as u64);
+    text(console, b"\n");
 }
 
-fn print_pixel(p: Pixel) {
+fn print_pixel(console: &mut Console, p: Pixel) {
     match p {
-        Pixel::Is(c) => print_colour(c),
-        Pixel::Outside => text(b"outside\n"),
-        Pixel::Refused(n) => print_refusal(n),
+        Pixel::Is(c) => print_colour(console, c),
+        Pixel::Outside => text(console, b"outside\n"),
+        Pixel::Refused(n) => print_refusal(console, n),
     }
 }

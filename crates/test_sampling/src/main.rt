@@ -4,7 +4,9 @@
 // holds, and how to make both again.
 #![tactic(auto)]
 
+use console::Console;
 use sampling::Colour;
+use std::io;
 
 // The picture is 5 by 4, in 60 bytes; the places follow from this word on,
 const FIRST: usize = 8;
@@ -12,68 +14,70 @@ const FIRST: usize = 8;
 // and the pixels from this byte on.
 const PIXELS: usize = 6800;
 
-fn main() {
-    let mut buf = io::large_buffer();
-    let n = io::read_full(0, &mut buf);
-    run(&buf[..n]);
+fn main(rt: HostRuntime) -> io::Result<()> {
+    let mut console = Console::new(rt);
+    let mut buf = [0u8; 65536];
+    let n = console.read_full(&mut buf);
+    run(&mut console, &buf[..n]);
+    console.finish()
 }
 
-fn run(b: &[u8]) {
+fn run(console: &mut Console, b: &[u8]) {
     if PIXELS <= b.len() {
-        examples();
-        refusals(&b[..60]);
-        places(&b[..60], &b[..PIXELS]);
-        lumas(&b[PIXELS..]);
+        examples(console);
+        refusals(console, &b[..60]);
+        places(console, &b[..60], &b[..PIXELS]);
+        lumas(console, &b[PIXELS..]);
     }
 }
 
 // Requirement 15.3: 0 and 255 side by side read at (1.0, 0.5) give 127.
-fn examples() {
+fn examples(console: &mut Console) {
     let two: [u8; 6] = [0, 0, 0, 255, 255, 255];
-    print(sampling::bilinear(&two, 2, 1, 1.0, 0.5));
+    print(console, sampling::bilinear(&two, 2, 1, 1.0, 0.5));
 }
 
 // A side outside its limit, and a wrong length.
-fn refusals(picture: &[u8]) {
-    print(sampling::bilinear(picture, 0, 4, 1.0, 1.0));
-    print(sampling::bilinear(picture, 5, 4097, 1.0, 1.0));
-    print(sampling::bilinear(picture, 5, 3, 1.0, 1.0));
-    print(sampling::bilinear(picture, 5, 5, 1.0, 1.0));
+fn refusals(console: &mut Console, picture: &[u8]) {
+    print(console, sampling::bilinear(picture, 0, 4, 1.0, 1.0));
+    print(console, sampling::bilinear(picture, 5, 4097, 1.0, 1.0));
+    print(console, sampling::bilinear(picture, 5, 3, 1.0, 1.0));
+    print(console, sampling::bilinear(picture, 5, 5, 1.0, 1.0));
 }
 
-fn places(picture: &[u8], b: &[u8]) {
+fn places(console: &mut Console, picture: &[u8], b: &[u8]) {
     let end = b.len() / 8;
     let mut i: usize = FIRST;
     while i + 1 < end {
         let x = vectors::double(vectors::word(b, i));
         let y = vectors::double(vectors::word(b, i + 1));
-        print(sampling::bilinear(picture, 5, 4, x, y));
+        print(console, sampling::bilinear(picture, 5, 4, x, y));
         i += 2;
     }
 }
 
-fn lumas(b: &[u8]) {
+fn lumas(console: &mut Console, b: &[u8]) {
     for i in 0..b.len() / 3 {
         let y = sampling::luma(b[3 * i], b[3 * i + 1], b[3 * i + 2]);
-        io::print_hex(1, vectors::bits32(y) as u64, 8);
-        io::write_all(1, b"\n");
+        console.hex(vectors::bits32(y) as u64, 8);
+        console.text(b"\n");
     }
 }
 
-fn print(answer: Colour) {
+fn print(console: &mut Console, answer: Colour) {
     match answer {
         Colour::Is(s) => {
             let c = s.colour;
-            io::print_hex(1, c.r as u64, 2);
-            io::print_hex(1, c.g as u64, 2);
-            io::print_hex(1, c.b as u64, 2);
-            io::write_all(1, b" ");
-            io::print_decimal(1, s.inside as u64);
+            console.hex(c.r as u64, 2);
+            console.hex(c.g as u64, 2);
+            console.hex(c.b as u64, 2);
+            console.text(b" ");
+            console.decimal(s.inside as u64);
         }
         Colour::Refused(n) => {
-            io::write_all(1, b"refused ");
-            io::print_decimal(1, n as u64);
+            console.text(b"refused ");
+            console.decimal(n as u64);
         }
     }
-    io::write_all(1, b"\n");
+    console.text(b"\n");
 }

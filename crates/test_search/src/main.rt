@@ -5,37 +5,42 @@
 ghost use Rattle.std.specs.Prelude.{◌+◌, ◌≤◌};
 
 use base::min;
+use console::Console;
 use fit::internal::sampled_cells;
 use fit::{GeometryFit, Grade};
 use frame::internal::{capture_wrong, frame_outside};
 use frame::{FrameSpec, Point, Quad};
 use search::internal::search;
 use search::{Outcome, Stage};
+use std::io;
 
 // A record at a time, to the end of stdin. The means are not cleared between two records.
-fn main() {
+fn main(rt: HostRuntime) -> io::Result<()> {
+    let mut console = Console::new(rt);
     let mut capture = [0u8; 49152];
     let mut means = [0.0; 1024];
     for _ in 0..1000usize {
         let mut record = [0u8; 128];
-        let n = io::read_full(0, &mut record);
+        let n = console.read_full(&mut record);
         if n < 128 {
-            return;
+            break;
         }
-        load(&record, &mut capture);
-        answer(&record, &capture, &mut means);
+        load(&mut console, &record, &mut capture);
+        answer(&mut console, &record, &capture, &mut means);
     }
+    console.finish()
 }
 
 // Reads the capture behind the record; none keeps the one before.
-fn load(b: &[u8], capture: &mut [u8]) {
+fn load(console: &mut Console, b: &[u8], capture: &mut [u8]) {
     let n = min(size_at(b, 0), capture.len());
-    io::read_full(0, &mut capture[..n]);
+    console.read_full(&mut capture[..n]);
 }
 
-fn answer(b: &[u8], capture: &[u8], means: &mut [f64]) {
+fn answer(console: &mut Console, b: &[u8], capture: &[u8], means: &mut [f64]) {
     let n = min(size_at(b, 1), capture.len());
     searched(
+        console,
         &capture[..n],
         size_at(b, 2),
         size_at(b, 3),
@@ -46,18 +51,26 @@ fn answer(b: &[u8], capture: &[u8], means: &mut [f64]) {
 }
 
 // The search, past the tests that its callers make: their numbers otherwise.
-fn searched(capture: &[u8], w: usize, h: usize, frame: FrameSpec, quad: Quad, means: &mut [f64]) {
+fn searched(
+    console: &mut Console,
+    capture: &[u8],
+    w: usize,
+    h: usize,
+    frame: FrameSpec,
+    quad: Quad,
+    means: &mut [f64],
+) {
     if frame_outside(frame) {
-        return print_word(1);
+        return print_word(console, 1);
     }
     if capture_wrong(capture, w, h) {
-        return print_word(2);
+        return print_word(console, 2);
     }
     let n = sampled_cells(frame);
     if means.len() < n {
-        return print_word(3);
+        return print_word(console, 3);
     }
-    print_stage(search(capture, w, h, frame, quad, &mut means[..n]));
+    print_stage(console, search(capture, w, h, frame, quad, &mut means[..n]));
 }
 
 // ---- arguments
@@ -103,65 +116,65 @@ fn quad_at(b: &[u8]) -> Quad {
 // ---- answers
 
 // Writes w as 16 hexadecimal digits, on a line.
-fn print_word(w: u64) {
+fn print_word(console: &mut Console, w: u64) {
     let line = vectors::hex_line(w);
-    io::write_all(1, &line);
+    console.text(&line);
 }
 
-fn print_float(x: f64) {
-    print_word(vectors::bits(x));
+fn print_float(console: &mut Console, x: f64) {
+    print_word(console, vectors::bits(x));
 }
 
-fn print_stage(s: Stage) {
+fn print_stage(console: &mut Console, s: Stage) {
     let kept = s.kept;
     let fit = s.fit;
     match kept {
         Outcome::NoHomography => {
-            print_word(10);
-            print_counts(s.tried, s.homographies);
+            print_word(console, 10);
+            print_counts(console, s.tried, s.homographies);
         }
         Outcome::Graded(g) => {
-            print_word(0);
-            print_counts(s.tried, s.homographies);
-            print_fit(fit);
-            print_grade(g);
+            print_word(console, 0);
+            print_counts(console, s.tried, s.homographies);
+            print_fit(console, fit);
+            print_grade(console, g);
         }
     }
 }
 
-fn print_counts(tried: usize, homographies: usize) {
-    print_word(tried as u64);
-    print_word(homographies as u64);
+fn print_counts(console: &mut Console, tried: usize, homographies: usize) {
+    print_word(console, tried as u64);
+    print_word(console, homographies as u64);
 }
 
-fn print_fit(fit: GeometryFit) {
+fn print_fit(console: &mut Console, fit: GeometryFit) {
     let h = fit.h;
     let m = h.m;
     for i in 0..9 {
-        print_float(m[i]);
+        print_float(console, m[i]);
     }
     let lens = fit.radial;
-    print_float(lens.k);
-    print_float(lens.cx);
-    print_float(lens.cy);
-    print_float(lens.norm);
+    print_float(console, lens.k);
+    print_float(console, lens.cx);
+    print_float(console, lens.cy);
+    print_float(console, lens.norm);
 }
 
 // The original has one float: outside and too few are its −∞.
-fn print_grade(g: Grade) {
+fn print_grade(console: &mut Console, g: Grade) {
     match g {
         Grade::Score(s) => {
-            print_float(s);
-            print_word(0);
+            print_float(console, s);
+            print_word(console, 0);
         }
         Grade::Outside(cell) => {
-            print_float(-1.0 / 0.0);
-            print_word(1);
-            print_word(cell as u64);
+            print_float(console, -1.0 / 0.0);
+            print_word(console, 1);
+            print_word(console, cell as u64);
         }
         Grade::TooFew => {
-            print_float(-1.0 / 0.0);
-            print_word(2);
+            print_float(console, -1.0 / 0.0);
+            print_word(console, 2);
         }
     }
 }

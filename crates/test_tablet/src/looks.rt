@@ -1,7 +1,8 @@
 // The functions that look at the whole capture, each with areas of its own.
 use super::print::{all_bytes, bytes, floats, shorts, singles, word, words};
+use console::Console;
 
-pub(crate) fn rectify(capture: &[u8; 43008]) {
+pub(crate) fn rectify(console: &mut Console, capture: &[u8; 43008]) {
     let mut luma = [0.0f32; 14337];
     let mut integral = [0.0; 14579];
     let mut mask = [9u8; 14336];
@@ -35,10 +36,11 @@ pub(crate) fn rectify(capture: &[u8; 43008]) {
         &mut counts,
         &mut fit,
     );
-    word(r as u64);
-    words(&counts, 0, 12);
-    floats(&fit, 0, 14);
+    word(console, r as u64);
+    words(console, &counts, 0, 12);
+    floats(console, &fit, 0, 14);
     looked(
+        console,
         &luma,
         &integral,
         &mask,
@@ -47,10 +49,10 @@ pub(crate) fn rectify(capture: &[u8; 43008]) {
         &candidates,
         &blob_index,
     );
-    bytes(&canonical, 936);
+    bytes(console, &canonical, 936);
 }
 
-pub(crate) fn fit_geometry(capture: &[u8; 43008]) {
+pub(crate) fn fit_geometry(console: &mut Console, capture: &[u8; 43008]) {
     let mut luma = [0.0f32; 14337];
     let mut integral = [0.0; 14579];
     let mut mask = [9u8; 14336];
@@ -82,10 +84,11 @@ pub(crate) fn fit_geometry(capture: &[u8; 43008]) {
         &mut counts,
         &mut fit,
     );
-    word(r as u64);
-    words(&counts, 0, 11);
-    floats(&fit, 0, 14);
+    word(console, r as u64);
+    words(console, &counts, 0, 11);
+    floats(console, &fit, 0, 14);
     looked(
+        console,
         &luma,
         &integral,
         &mask,
@@ -96,7 +99,7 @@ pub(crate) fn fit_geometry(capture: &[u8; 43008]) {
     );
 }
 
-pub(crate) fn detect_fiducials(capture: &[u8; 43008]) -> [f64; 8] {
+pub(crate) fn detect_fiducials(console: &mut Console, capture: &[u8; 43008]) -> [f64; 8] {
     let mut luma = [0.0f32; 14337];
     let mut integral = [0.0; 14579];
     let mut mask = [9u8; 14336];
@@ -126,10 +129,11 @@ pub(crate) fn detect_fiducials(capture: &[u8; 43008]) -> [f64; 8] {
         &mut counts,
         &mut points,
     );
-    word(r as u64);
-    words(&counts, 0, 7);
-    floats(&points, 0, 8);
+    word(console, r as u64);
+    words(console, &counts, 0, 7);
+    floats(console, &points, 0, 8);
     looked(
+        console,
         &luma,
         &integral,
         &mask,
@@ -141,7 +145,7 @@ pub(crate) fn detect_fiducials(capture: &[u8; 43008]) -> [f64; 8] {
     points
 }
 
-pub(crate) fn fiducial_candidates(capture: &[u8; 43008]) {
+pub(crate) fn fiducial_candidates(console: &mut Console, capture: &[u8; 43008]) {
     let mut luma = [0.0f32; 14337];
     let mut integral = [0.0; 14579];
     let mut mask = [9u8; 14336];
@@ -169,9 +173,10 @@ pub(crate) fn fiducial_candidates(capture: &[u8; 43008]) {
         &mut blob_index,
         &mut counts,
     );
-    word(r as u64);
-    words(&counts, 0, 3);
+    word(console, r as u64);
+    words(console, &counts, 0, 3);
     looked(
+        console,
         &luma,
         &integral,
         &mask,
@@ -180,12 +185,12 @@ pub(crate) fn fiducial_candidates(capture: &[u8; 43008]) {
         &candidates,
         &blob_index,
     );
-    label_blobs(&mask);
-    candidate_page(&candidates);
+    label_blobs(console, &mask);
+    candidate_page(console, &candidates);
 }
 
 // The patches of the mask that the call before left.
-fn label_blobs(mask: &[u8; 14336]) {
+fn label_blobs(console: &mut Console, mask: &[u8; 14336]) {
     let mut seen = [9u8; 14340];
     let mut waiting = [9u32; 14341];
     let mut patches = [9u64; 57350];
@@ -199,21 +204,25 @@ fn label_blobs(mask: &[u8; 14336]) {
         &mut patches,
         &mut counts,
     );
-    word(r as u64);
-    words(&counts, 0, 2);
-    bytes(&seen, 112);
-    words(&patches, 0, 16);
+    word(console, r as u64);
+    words(console, &counts, 0, 2);
+    bytes(console, &seen, 112);
+    words(console, &patches, 0, 16);
 }
 
 // The page of the candidates that the call before left, in an area that is longer.
-fn candidate_page(candidates: &[f64; 1799]) {
+fn candidate_page(console: &mut Console, candidates: &[f64; 1799]) {
     let mut page = [9u8; 224];
-    word(tablet::tablet_candidate_page(candidates, 4, &mut page) as u64);
-    all_bytes(&page);
+    word(
+        console,
+        tablet::tablet_candidate_page(candidates, 4, &mut page) as u64,
+    );
+    all_bytes(console, &page);
 }
 
 // Entries of the areas by which each is known.
 fn looked(
+    console: &mut Console,
     luma: &[f32; 14337],
     integral: &[f64; 14579],
     mask: &[u8; 14336],
@@ -222,11 +231,11 @@ fn looked(
     candidates: &[f64; 1799],
     blob_index: &[u32; 456],
 ) {
-    singles(luma, 1000, 1002);
-    floats(integral, 14575, 14577);
-    bytes(mask, 112);
-    bytes(seen, 112);
-    words(patches, 0, 16);
-    floats(candidates, 0, 16);
-    shorts(blob_index, 0, 4);
+    singles(console, luma, 1000, 1002);
+    floats(console, integral, 14575, 14577);
+    bytes(console, mask, 112);
+    bytes(console, seen, 112);
+    words(console, patches, 0, 16);
+    floats(console, candidates, 0, 16);
+    shorts(console, blob_index, 0, 4);
 }

@@ -8,76 +8,82 @@
 mod looks; // looks.rt: the functions that look at the whole capture
 mod print; // print.rt: words on lines
 
+use console::Console;
 use print::{all_bytes, bytes, floats, shorts, singles, word, words};
+use std::io;
 
-fn main() {
+fn main(rt: HostRuntime) -> io::Result<()> {
+    let mut console = Console::new(rt);
     let mut capture = [0u8; 43008];
-    io::read_full(0, &mut capture);
-    looks::rectify(&capture);
-    looks::fit_geometry(&capture);
-    let points = looks::detect_fiducials(&capture);
-    looks::fiducial_candidates(&capture);
-    let fit = fit_for(&points);
-    grid_score(&capture, &fit);
+    console.read_full(&mut capture);
+    looks::rectify(&mut console, &capture);
+    looks::fit_geometry(&mut console, &capture);
+    let points = looks::detect_fiducials(&mut console, &capture);
+    looks::fiducial_candidates(&mut console, &capture);
+    let fit = fit_for(&mut console, &points);
+    grid_score(&mut console, &capture, &fit);
     // The card moved to the right, in part off the picture: an outside grade, with its cell.
     let mut moved = fit;
     moved[2] = moved[2] + 40.0;
-    grid_score(&capture, &moved);
-    warp_with(&capture, &fit);
+    grid_score(&mut console, &capture, &moved);
+    warp_with(&mut console, &capture, &fit);
     // A fit of NaNs: no position is inside.
     let none = [0.0 / 0.0; 13];
-    warp_with(&capture, &none);
+    warp_with(&mut console, &capture, &none);
     let numbers = patterns(&fit);
-    warp_record(&capture, 0, &numbers);
-    warp_record(&capture, 1, &numbers);
-    bilinear(&capture);
-    luma();
-    lengths();
-    grid();
-    marker_numbers();
-    let centers = marker_centers();
-    stamp_fiducials();
-    let matrix = from_points(&centers, &points);
-    inverse(&matrix);
-    mat3_mul(&matrix, &fit);
-    apply(&matrix);
-    let lens = radial();
-    distort(&lens);
-    undistort(&lens);
-    rms_error(&centers, &points);
-    let book = write_book();
-    read_book(&book);
-    checkerboard(4, 9);
-    checkerboard(4, 4097);
-    checkerboard(4, 11);
-    patch_windows(3, 2, 29);
-    patch_windows(3, 3, 29);
-    patch_windows(3, 2, 4096);
-    merge_books(&book);
+    warp_record(&mut console, &capture, 0, &numbers);
+    warp_record(&mut console, &capture, 1, &numbers);
+    bilinear(&mut console, &capture);
+    luma(&mut console);
+    lengths(&mut console);
+    grid(&mut console);
+    marker_numbers(&mut console);
+    let centers = marker_centers(&mut console);
+    stamp_fiducials(&mut console);
+    let matrix = from_points(&mut console, &centers, &points);
+    inverse(&mut console, &matrix);
+    mat3_mul(&mut console, &matrix, &fit);
+    apply(&mut console, &matrix);
+    let lens = radial(&mut console);
+    distort(&mut console, &lens);
+    undistort(&mut console, &lens);
+    rms_error(&mut console, &centers, &points);
+    let book = write_book(&mut console);
+    read_book(&mut console, &book);
+    checkerboard(&mut console, 4, 9);
+    checkerboard(&mut console, 4, 4097);
+    checkerboard(&mut console, 4, 11);
+    patch_windows(&mut console, 3, 2, 29);
+    patch_windows(&mut console, 3, 3, 29);
+    patch_windows(&mut console, 3, 2, 4096);
+    console.finish()
 }
 
 // ---- fits and readings
 
-fn fit_for(points: &[f64; 8]) -> [f64; 13] {
+fn fit_for(console: &mut Console, points: &[f64; 8]) -> [f64; 13] {
     let mut fit = [0.0; 13];
-    word(tablet::tablet_fit_for(128, 112, 208, 192, 8, 48, points, 0.015, &mut fit) as u64);
-    floats(&fit, 0, 13);
+    word(
+        console,
+        tablet::tablet_fit_for(128, 112, 208, 192, 8, 48, points, 0.015, &mut fit) as u64,
+    );
+    floats(console, &fit, 0, 13);
     fit
 }
 
-fn grid_score(capture: &[u8; 43008], fit: &[f64; 13]) {
+fn grid_score(console: &mut Console, capture: &[u8; 43008], fit: &[f64; 13]) {
     let mut means = [0.0; 29];
     let mut grade = [9u64; 2];
     let mut score = [0.0; 1];
     let r = tablet::tablet_grid_score(
         capture, 128, 112, 208, 192, 8, 48, fit, &mut means, &mut grade, &mut score,
     );
-    word(r as u64);
-    words(&grade, 0, 2);
-    floats(&score, 0, 1);
+    word(console, r as u64);
+    words(console, &grade, 0, 2);
+    floats(console, &score, 0, 1);
 }
 
-fn warp_with(capture: &[u8; 43008], fit: &[f64; 13]) {
+fn warp_with(console: &mut Console, capture: &[u8; 43008], fit: &[f64; 13]) {
     let mut canonical = [5u8; 119808];
     let mut counts = [9u64; 1];
     let r = tablet::tablet_warp_with(
@@ -92,9 +98,9 @@ fn warp_with(capture: &[u8; 43008], fit: &[f64; 13]) {
         &mut canonical,
         &mut counts,
     );
-    word(r as u64);
-    words(&counts, 0, 1);
-    bytes(&canonical, 936);
+    word(console, r as u64);
+    words(console, &counts, 0, 1);
+    bytes(console, &canonical, 936);
 }
 
 fn patterns(fit: &[f64; 13]) -> [u64; 13] {
@@ -105,7 +111,7 @@ fn patterns(fit: &[f64; 13]) -> [u64; 13] {
     numbers
 }
 
-fn warp_record(capture: &[u8; 43008], grade: u32, numbers: &[u64; 13]) {
+fn warp_record(console: &mut Console, capture: &[u8; 43008], grade: u32, numbers: &[u64; 13]) {
     let mut canonical = [5u8; 119808];
     let mut counts = [9u64; 1];
     let r = tablet::tablet_warp_record(
@@ -121,110 +127,143 @@ fn warp_record(capture: &[u8; 43008], grade: u32, numbers: &[u64; 13]) {
         &mut canonical,
         &mut counts,
     );
-    word(r as u64);
-    words(&counts, 0, 1);
-    bytes(&canonical, 936);
+    word(console, r as u64);
+    words(console, &counts, 0, 1);
+    bytes(console, &canonical, 936);
 }
 
-fn bilinear(capture: &[u8; 43008]) {
+fn bilinear(console: &mut Console, capture: &[u8; 43008]) {
     let mut colour = [0u8; 8];
-    word(tablet::tablet_bilinear(capture, 128, 112, 40.25, 71.5, &mut colour) as u64);
-    bytes(&colour, 1);
+    word(
+        console,
+        tablet::tablet_bilinear(capture, 128, 112, 40.25, 71.5, &mut colour) as u64,
+    );
+    bytes(console, &colour, 1);
 }
 
-fn luma() {
-    singles(&[tablet::tablet_luma(200, 31, 7)], 0, 1);
+fn luma(console: &mut Console) {
+    singles(console, &[tablet::tablet_luma(200, 31, 7)], 0, 1);
 }
 
 // ---- frames
 
-fn lengths() {
+fn lengths(console: &mut Console) {
     let mut numbers = [0u64; 11];
-    word(tablet::tablet_lengths(128, 112, 208, 192, 8, 48, &mut numbers) as u64);
-    words(&numbers, 0, 11);
+    word(
+        console,
+        tablet::tablet_lengths(128, 112, 208, 192, 8, 48, &mut numbers) as u64,
+    );
+    words(console, &numbers, 0, 11);
 }
 
-fn grid() {
+fn grid(console: &mut Console) {
     let mut numbers = [0u64; 2];
-    word(tablet::tablet_grid(208, 192, 8, 48, &mut numbers) as u64);
-    words(&numbers, 0, 2);
+    word(
+        console,
+        tablet::tablet_grid(208, 192, 8, 48, &mut numbers) as u64,
+    );
+    words(console, &numbers, 0, 2);
 }
 
-fn marker_numbers() {
+fn marker_numbers(console: &mut Console) {
     let mut numbers = [0u64; 3];
-    word(tablet::tablet_marker_numbers(10, &mut numbers) as u64);
-    words(&numbers, 0, 3);
+    word(
+        console,
+        tablet::tablet_marker_numbers(10, &mut numbers) as u64,
+    );
+    words(console, &numbers, 0, 3);
 }
 
-fn marker_centers() -> [f64; 8] {
+fn marker_centers(console: &mut Console) -> [f64; 8] {
     let mut points = [0.0; 8];
-    word(tablet::tablet_marker_centers(208, 192, 8, 48, &mut points) as u64);
-    floats(&points, 0, 8);
+    word(
+        console,
+        tablet::tablet_marker_centers(208, 192, 8, 48, &mut points) as u64,
+    );
+    floats(console, &points, 0, 8);
     points
 }
 
-fn stamp_fiducials() {
+fn stamp_fiducials(console: &mut Console) {
     let mut image = [7u8; 7920];
-    word(tablet::tablet_stamp_fiducials(&mut image, 60, 44, 208, 192, 8, 48) as u64);
-    bytes(&image, 62);
+    word(
+        console,
+        tablet::tablet_stamp_fiducials(&mut image, 60, 44, 208, 192, 8, 48) as u64,
+    );
+    bytes(console, &image, 62);
 }
 
 // ---- matrices and lens
 
-fn from_points(source: &[f64; 8], target: &[f64; 8]) -> [f64; 9] {
+fn from_points(console: &mut Console, source: &[f64; 8], target: &[f64; 8]) -> [f64; 9] {
     let mut matrix = [0.0; 9];
-    word(tablet::tablet_from_points(source, target, &mut matrix) as u64);
-    floats(&matrix, 0, 9);
+    word(
+        console,
+        tablet::tablet_from_points(source, target, &mut matrix) as u64,
+    );
+    floats(console, &matrix, 0, 9);
     matrix
 }
 
-fn inverse(matrix: &[f64; 9]) {
+fn inverse(console: &mut Console, matrix: &[f64; 9]) {
     let mut result = [0.0; 9];
-    word(tablet::tablet_inverse(matrix, &mut result) as u64);
-    floats(&result, 0, 9);
+    word(console, tablet::tablet_inverse(matrix, &mut result) as u64);
+    floats(console, &result, 0, 9);
 }
 
-fn mat3_mul(a: &[f64; 9], b: &[f64; 13]) {
+fn mat3_mul(console: &mut Console, a: &[f64; 9], b: &[f64; 13]) {
     let mut result = [0.0; 9];
-    word(tablet::tablet_mat3_mul(a, b, &mut result) as u64);
-    floats(&result, 0, 9);
+    word(console, tablet::tablet_mat3_mul(a, b, &mut result) as u64);
+    floats(console, &result, 0, 9);
 }
 
-fn apply(matrix: &[f64; 9]) {
+fn apply(console: &mut Console, matrix: &[f64; 9]) {
     let mut point = [0.0; 2];
-    word(tablet::tablet_apply(matrix, 31.0, 77.5, &mut point) as u64);
-    floats(&point, 0, 2);
+    word(
+        console,
+        tablet::tablet_apply(matrix, 31.0, 77.5, &mut point) as u64,
+    );
+    floats(console, &point, 0, 2);
 }
 
-fn radial() -> [f64; 4] {
+fn radial(console: &mut Console) -> [f64; 4] {
     let mut lens = [0.0; 4];
-    word(tablet::tablet_radial(128, 112, 0.125, &mut lens) as u64);
-    floats(&lens, 0, 4);
+    word(
+        console,
+        tablet::tablet_radial(128, 112, 0.125, &mut lens) as u64,
+    );
+    floats(console, &lens, 0, 4);
     lens
 }
 
-fn distort(lens: &[f64; 4]) {
+fn distort(console: &mut Console, lens: &[f64; 4]) {
     let mut point = [0.0; 2];
-    word(tablet::tablet_distort(lens, 31.0, 77.5, &mut point) as u64);
-    floats(&point, 0, 2);
+    word(
+        console,
+        tablet::tablet_distort(lens, 31.0, 77.5, &mut point) as u64,
+    );
+    floats(console, &point, 0, 2);
 }
 
-fn undistort(lens: &[f64; 4]) {
+fn undistort(console: &mut Console, lens: &[f64; 4]) {
     let mut point = [0.0; 2];
-    word(tablet::tablet_undistort(lens, 31.0, 77.5, &mut point) as u64);
-    floats(&point, 0, 2);
+    word(
+        console,
+        tablet::tablet_undistort(lens, 31.0, 77.5, &mut point) as u64,
+    );
+    floats(console, &point, 0, 2);
 }
 
-fn rms_error(a: &[f64; 8], b: &[f64; 8]) {
+fn rms_error(console: &mut Console, a: &[f64; 8], b: &[f64; 8]) {
     let mut result = [0.0; 1];
-    word(tablet::tablet_rms_error(a, b, &mut result) as u64);
-    floats(&result, 0, 1);
+    word(console, tablet::tablet_rms_error(a, b, &mut result) as u64);
+    floats(console, &result, 0, 1);
 }
 
 // ---- books
 
 // A book of one record, from lists that are longer.
-fn write_book() -> [u8; 136] {
+fn write_book(console: &mut Console) -> [u8; 136] {
     let heads = [7u32, 3, 1, 9];
     let numbers = [
         0x0706_0504_0302_0100u64,
@@ -243,71 +282,48 @@ fn write_book() -> [u8; 136] {
         0xd7d6_d5d4_d3d2_d1d0,
     ];
     let mut book = [9u8; 136];
-    word(tablet::tablet_write_book(&heads, &numbers, 1, &mut book) as u64);
-    all_bytes(&book);
+    word(
+        console,
+        tablet::tablet_write_book(&heads, &numbers, 1, &mut book) as u64,
+    );
+    all_bytes(console, &book);
     book
 }
 
 // That record, into lists that are longer.
-fn read_book(book: &[u8; 136]) {
+fn read_book(console: &mut Console, book: &[u8; 136]) {
     let mut heads = [9u32; 5];
     let mut numbers = [9u64; 15];
-    word(tablet::tablet_read_book(book, &mut heads, &mut numbers) as u64);
-    shorts(&heads, 0, 5);
-    words(&numbers, 0, 15);
+    word(
+        console,
+        tablet::tablet_read_book(book, &mut heads, &mut numbers) as u64,
+    );
+    shorts(console, &heads, 0, 5);
+    words(console, &numbers, 0, 15);
 }
 
 // ---- masks
 
 // In an area of 40 bytes: for 4 by 9 pixels it is longer, for 4 by 11 it is short.
-fn checkerboard(w: usize, h: usize) {
+fn checkerboard(console: &mut Console, w: usize, h: usize) {
     let mut mask = [9u8; 40];
-    word(tablet::tablet_checkerboard(w, h, &mut mask) as u64);
-    all_bytes(&mask);
+    word(console, tablet::tablet_checkerboard(w, h, &mut mask) as u64);
+    all_bytes(console, &mask);
 }
 
 // ---- patch lists
 
 // The last row of the second rectangle is handed in. The areas are those of three patches, of two
 // rectangles and a number more, and of two answers and a number more.
-fn patch_windows(n: usize, k: usize, last: u64) {
+fn patch_windows(console: &mut Console, n: usize, k: usize, last: u64) {
     let patches = [
         11u64, 12, 13, 1, 2, 3, 4, 14, 21, 22, 23, 10, 20, 18, 25, 24, 31, 32, 33, 40, 5, 41, 6, 34,
     ];
     let windows = [3u64, 4, 13, 23, 19, 26, 27, last, 5];
     let mut answers = [9u64; 7];
-    word(tablet::tablet_patch_windows(&patches, n, &windows, k, &mut answers) as u64);
-    words(&answers, 0, 7);
-}
-
-// ---- two books
-
-// The book of one record and one of the same panel's next camera; with itself in a target that is
-// short; and with another fit under its key. Which book is first shows only where both are
-// refused, here by 15 for two records that are the same and by 14 for a grade.
-fn merge_books(book: &[u8; 136]) {
-    let mut next = *book;
-    next[20] = 4;
-    joined(book, &next);
-    let mut short = [9u8; 128];
-    word(tablet::tablet_merge_books(book, book, &mut short) as u64);
-    all_bytes(&short);
-    let mut other = *book;
-    other[135] = 0xc8;
-    joined(book, &other);
-    let mut twice = [0u8; 256];
-    twice[0] = 2;
-    twice[4] = 16;
-    twice[8] = 120;
-    twice[13] = 1;
-    let mut graded = *book;
-    graded[24] = 3;
-    joined(&twice, &graded);
-}
-
-// In a target that is longer than two records need.
-fn joined(first: &[u8], second: &[u8]) {
-    let mut target = [9u8; 264];
-    word(tablet::tablet_merge_books(first, second, &mut target) as u64);
-    all_bytes(&target);
+    word(
+        console,
+        tablet::tablet_patch_windows(&patches, n, &windows, k, &mut answers) as u64,
+    );
+    words(console, &answers, 0, 7);
 }

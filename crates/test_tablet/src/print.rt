@@ -2,52 +2,53 @@
 ghost use Rattle.std.specs.Prelude.{◌≤◌};
 
 use base::min;
+use console::Console;
 
-pub(crate) fn word(w: u64) {
+pub(crate) fn word(console: &mut Console, w: u64) {
     let line = vectors::hex_line(w);
-    io::write_all(1, &line);
+    console.text(&line);
 }
 
 fn wide(x: u32) -> u64 {
     x as u64
 }
 
-pub(crate) fn words(a: &[u64], from: usize, to: usize) {
+pub(crate) fn words(console: &mut Console, a: &[u64], from: usize, to: usize) {
     for i in from..min(to, a.len()) {
-        word(a[i]);
+        word(console, a[i]);
     }
 }
 
-pub(crate) fn shorts(a: &[u32], from: usize, to: usize) {
+pub(crate) fn shorts(console: &mut Console, a: &[u32], from: usize, to: usize) {
     for i in from..min(to, a.len()) {
-        word(wide(a[i]));
+        word(console, wide(a[i]));
     }
 }
 
-pub(crate) fn floats(a: &[f64], from: usize, to: usize) {
+pub(crate) fn floats(console: &mut Console, a: &[f64], from: usize, to: usize) {
     for i in from..min(to, a.len()) {
-        word(vectors::bits(a[i]));
+        word(console, vectors::bits(a[i]));
     }
 }
 
-pub(crate) fn singles(a: &[f32], from: usize, to: usize) {
+pub(crate) fn singles(console: &mut Console, a: &[f32], from: usize, to: usize) {
     for i in from..min(to, a.len()) {
-        word(wide(vectors::bits32(a[i])));
+        word(console, wide(vectors::bits32(a[i])));
     }
 }
 
 // n words of eight bytes, every sixteenth.
-pub(crate) fn bytes(b: &[u8], n: usize)
+pub(crate) fn bytes(console: &mut Console, b: &[u8], n: usize)
     requires { n ≤ 1000 }
 {
     for i in 0..n {
-        word(vectors::word(b, 16 * i));
+        word(console, vectors::word(b, 16 * i));
     }
 }
 
 // All words of eight bytes.
-pub(crate) fn all_bytes(b: &[u8]) {
+pub(crate) fn all_bytes(console: &mut Console, b: &[u8]) {
     for i in 0..b.len() / 8 {
-        word(vectors::word(b, i));
+        word(console, vectors::word(b, i));
     }
 }

@@ -6,31 +6,35 @@
 
 use base::min;
 use book::FitRecord;
+use console::Console;
 use frame::{FrameSpec, Number};
+use std::io;
 
 // A call at a time, to the end of stdin.
-fn main() {
+fn main(rt: HostRuntime) -> io::Result<()> {
+    let mut console = Console::new(rt);
     let mut capture = [0u8; 1024];
     let mut canonical = [0u8; 1024];
     for _ in 0..1000usize {
         let mut head = [0u8; 176];
-        let n = io::read_full(0, &mut head);
+        let n = console.read_full(&mut head);
         if n < 176 {
-            return;
+            break;
         }
-        call(&head, &mut capture, &mut canonical);
+        call(&mut console, &head, &mut capture, &mut canonical);
     }
+    console.finish()
 }
 
 // The call that 22 words describe, on as much of the areas as it is lent.
-fn call(head: &[u8], capture: &mut [u8], canonical: &mut [u8]) {
+fn call(console: &mut Console, head: &[u8], capture: &mut [u8], canonical: &mut [u8]) {
     let bytes = min(size_at(head, 2), capture.len());
     let room = min(size_at(head, 8), canonical.len());
-    answer(head, &mut capture[..bytes], &mut canonical[..room]);
+    answer(console, head, &mut capture[..bytes], &mut canonical[..room]);
 }
 
-fn answer(head: &[u8], capture: &mut [u8], canonical: &mut [u8]) {
-    io::read_full(0, capture);
+fn answer(console: &mut Console, head: &[u8], capture: &mut [u8], canonical: &mut [u8]) {
+    console.read_full(capture);
     cover(canonical);
     let frame = FrameSpec {
         width: size_at(head, 3),
@@ -47,8 +51,8 @@ fn answer(head: &[u8], capture: &mut [u8], canonical: &mut [u8]) {
         kept,
         canonical,
     );
-    print(number);
-    bytes(canonical);
+    print(console, number);
+    bytes(console, canonical);
 }
 
 fn size_at(head: &[u8], i: usize) -> usize {
@@ -76,25 +80,25 @@ fn cover(canonical: &mut [u8]) {
     }
 }
 
-fn print(number: Number) {
+fn print(console: &mut Console, number: Number) {
     match number {
         Number::Is(beyond) => {
-            io::write_all(1, b"accepted ");
-            io::print_decimal(1, beyond as u64);
+            console.text(b"accepted ");
+            console.decimal(beyond as u64);
         }
         Number::Refused(n) => {
-            io::write_all(1, b"refused ");
-            io::print_decimal(1, n as u64);
+            console.text(b"refused ");
+            console.decimal(n as u64);
         }
     }
 }
 
-fn bytes(b: &[u8]) {
-    io::write_all(1, b" ");
+fn bytes(console: &mut Console, b: &[u8]) {
+    console.text(b" ");
     for i in 0..b.len() {
-        io::print_hex(1, wide(b[i]), 2);
+        console.hex(wide(b[i]), 2);
     }
-    io::write_all(1, b"\n");
+    console.text(b"\n");
 }
 
 fn wide(x: u8) -> u64 {

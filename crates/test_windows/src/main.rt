@@ -11,18 +11,22 @@ mod print; // print.rt: an answer's lines
 ghost use Rattle.std.specs.Prelude.{◌≤◌};
 
 use base::min;
+use console::Console;
 use frame::Verdict;
+use std::io;
 
-fn main() {
-    let mut input = io::large_buffer();
-    let n = io::read_full(0, &mut input);
-    ask_all(&input[..n]);
+fn main(rt: HostRuntime) -> io::Result<()> {
+    let mut console = Console::new(rt);
+    let mut input = [0u8; 65536];
+    let n = console.read_full(&mut input);
+    ask_all(&mut console, &input[..n]);
+    console.finish()
 }
 
 // A question is seven words, the mask or the list, and the rectangles. Where the input ends early
 // the last question has what is left of it. The areas are those of a mask of 64 by 64 pixels, and
 // hold more than the 64 rectangles and answers of a call, so that too many can be asked for.
-fn ask_all(input: &[u8]) {
+fn ask_all(console: &mut Console, input: &[u8]) {
     let mut seen = [9u8; 4096];
     let mut waiting = [9u32; 4096];
     let mut patches = [9u64; 16384];
@@ -35,6 +39,7 @@ fn ask_all(input: &[u8]) {
         let listed = min(start + list_bytes(head), input.len());
         let end = min(listed + 8 * held(head, 4, 512), input.len());
         ask(
+            console,
             head,
             &input[start..listed],
             &input[listed..end],
@@ -87,6 +92,7 @@ fn pixels(w: usize, h: usize) -> usize
 
 // The patches of the mask, or the list as it is handed in.
 fn load_list(
+    console: &mut Console,
     head: &[u8],
     list: &[u8],
     seen: &mut [u8; 4096],
@@ -99,7 +105,7 @@ fn load_list(
         return;
     }
     let r = blobs::label_blobs(list, w, size_at(head, 1), seen, waiting, patches);
-    print::labelled(b"patches ", r.patches as u64);
+    print::labelled(console, b"patches ", r.patches as u64);
 }
 
 // As many words as there are and the area holds, at its start.
@@ -113,6 +119,7 @@ fn load(words: &[u8], area: &mut [u64]) {
 // ---- a question
 
 fn ask(
+    console: &mut Console,
     head: &[u8],
     list: &[u8],
     rectangles: &[u8],
@@ -122,13 +129,13 @@ fn ask(
     windows: &mut [u64; 512],
     answers: &mut [u64; 256],
 ) {
-    load_list(head, list, seen, waiting, patches);
+    load_list(console, head, list, seen, waiting, patches);
     load(rectangles, windows);
     fill(answers);
     let verdict = call(head, patches, windows, answers);
     match verdict {
-        Verdict::Accepted => print::accepted(answers, size_at(head, 5)),
-        Verdict::Refused(n) => print::refused(answers, n),
+        Verdict::Accepted => print::accepted(console, answers, size_at(head, 5)),
+        Verdict::Refused(n) => print::refused(console, answers, n),
     }
 }
 

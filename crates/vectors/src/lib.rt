@@ -4,10 +4,10 @@
 
 pub mod sum; // sum.rt: checksums
 
-ghost use Rattle.std.specs.Prelude.{◌≡◌};
+ghost use Rattle.std.specs.Prelude.{◌≡◌, ◌<◌};
 ghost use Rattle.std.specs.Float.{binary32, binary64};
 ghost use Rattle.std.specs.Float.Ieee.{of_bits, to_bits};
-ghost use Rattle.vectors.specs.Words.{word_of, hex_line};
+ghost use Rattle.vectors.specs.Words.{word_of, hex_digit_ascii, hex_line};
 
 // Word i of b, the lowest byte first, and 0 where b is too short to hold it.
 pub fn word(b: &[u8], i: usize) -> u64
@@ -55,11 +55,24 @@ pub fn single(p: u32) -> f32
 pub fn hex_line(w: u64) -> [u8; 17]
     ensures { result ≡ hex_line w }
 {
-    let mut digits = [0u8; 16];
-    io::hex(w, 16, &mut digits);
     let mut line = [b'\n'; 17];
-    for i in 0..16 {
-        line[i] = digits[i];
+    let mut rest = w;
+    let mut i = 16;
+    while 0 < i {
+        i -= 1;
+        line[i] = hex_digit(rest % 16);
+        rest /= 16;
     }
     line
+}
+
+fn hex_digit(d: u64) -> u8
+    requires { d < 16 }
+    ensures { result ≡ hex_digit_ascii d }
+{
+    if d < 10 {
+        b'0' + d as u8
+    } else {
+        b'a' - 10 + d as u8
+    }
 }

@@ -40,4 +40,4 @@ shape_of-means c = c.fit_picture-p.auto.means
 pub returns : goal.returns
 returns c =
     fit_reported _ _ _ _ _ _ _ _ (sym c.refused-number.ensures ∙
-    c.if-number-ne0.left) c.fit_picture-p.ensures c.answer.ensures
+    c.if-number-ne0.false) c.fit_picture-p.ensures c.answer.ensures

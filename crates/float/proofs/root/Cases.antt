@@ -1,5 +1,5 @@
 -- The cases of `sqrt`: an x above zero by its pattern b, and the others. Assumes nothing.
-use Rattle.std.proofs.Common.{◌≡◌, ℕ, zero, suc, ◌+◌, ◌-◌, ◌*◌, ◌/◌, ◌%◌, ◌^◌, ◌<◌, ◌≤◌, Bool, true, false, T, eqb, ltb, leb, ℤ, sym, refl, ap, ◌∙◌, subst, inl, inr, true≢false, le_trans, le_of_eq, lt_of_lt_of_le, lt_of_le_of_lt, mul-le-mul_right, mod-eq_of_lt, mul_assoc, mul-pos, mul_right_comm, arith, lit≤, eqb→eq, ltb→lt, lt→ltb, pow_pos, pow-add, shl_lt, leb-false}
+use Rattle.std.proofs.Common.{◌≡◌, ℕ, zero, suc, ◌+◌, ◌-◌, ◌*◌, ◌/◌, ◌%◌, ◌^◌, ◌<◌, ◌≤◌, Bool, true, false, T, eqb, leb, ℤ, sym, refl, ap, ◌∙◌, subst, inl, inr, true≢false, le_trans, le_of_eq, lt_of_lt_of_le, lt_of_le_of_lt, mul-le-mul_right, mod-eq_of_lt, mul_assoc, mul-pos, mul_right_comm, arith, lit≤, eqb→eq, ltb→lt, lt→ltb, pow_pos, pow-add, shl_lt, leb-false}
 use lib.Count.{count_leading_zeros, leading_top}
 use lib.Ieee.{Float, nan, inf, fin, binary64, up, down, units, fits, of_bits, to_bits, lt, eq}
 use lib.Ieee.Fits.{up_pos, and_l, and_i, eq→eqb}

@@ -43,7 +43,7 @@ returns-in-None c =
     stamping_refused (image _ _ _) _ 4
     (lowest_next 1 _ _ (sym c.frame_outside.ensures ∙ c.if-frame_outside.false)
     ∙ lowest_next 2 _ _ (sym c.capture_wrong.ensures ∙ c.if-capture_wrong.false)
-    ∙ lowest_first 5 _ _ (layout_none _ (sym c.marker_layout-layout.ensures ∙ c.enum_told-1.given.1)))
+    ∙ lowest_first 5 _ _ (layout_none _ (sym c.marker_layout-layout.ensures ∙ c.in-None.is)))
 
 pub returns-in-Is : goal.returns-in-Is
 unfolding stamp_tests stamped squares

@@ -1,5 +1,4 @@
 -- `windows::patch_windows` meets its contract. Assumes nothing.
-use borrow.Author.Tests.{not-true, not-false}
 use native.Mathlib.Omega.{arith}
 use Prim.Native.Nat.{◌<◌, ◌*◌, ◌^◌}
 use mathlib.Core.Path.{refl, sym, ap, ◌∙◌}
@@ -32,7 +31,7 @@ returns-then-not-walk c =
     let f = c.refused-number.ensures.0 c.if-number-ne0.false in
     let a = c.args in
     let e = bad_box_lem a.patches.now a.n a.windows.now a.k a.answers.now f
-    (sym c.walk.ensures.0 ∙ not-true _ (ap not c.if-not-walk.true)) in
+    (sym c.walk.ensures.0 ∙ c.if-not-walk.true) in
     record {
       given = refused_is 17 (λ z. omega arith) ∙ ap verdict_of e;
       accepted = λ z. absurd (omega (arith, e ∙ z));
@@ -51,7 +50,7 @@ returns c =
     let w = c.walk in
     let f = c.refused-number.ensures.0 c.if-number-ne0.false in
     let a = c.args in
-    let seen = not-false _ c.if-not-walk.false in
+    let seen = c.if-not-walk.false in
     let b = sym w.ensures.0 ∙ seen in
     let fits : a.n < 2 ^ 64 = omega (arith, c.ranges.n) in
     let z = none_bad a.patches.now a.n a.windows.now a.k a.answers.now f b in

@@ -33,8 +33,7 @@ overflow_add-v-in-loop-k c =
 
 pub loop-k-preserved : goal.loop-k-preserved
 loop-k-preserved c =
-    let l = c.loop-k in
-    (
+    let l = c.loop-k in (
       little_endian_step _ c.args.n c.args.p l.k l.v (omega arith) l.invariant.2 c.requires.0 l.invariant.0,
       below_step c.args.b.now c.args.n c.args.p l.k l.v (omega arith) l.invariant.2 c.requires.0 l.invariant.1 (byte c),
       omega arith,

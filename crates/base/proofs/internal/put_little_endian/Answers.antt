@@ -1,7 +1,6 @@
 -- `base::internal::put_little_endian` meets its contract. The loop's invariant: the first k bytes are written. Assumes nothing.
 use borrow.Author.Rules.{rules}
 use native.Mathlib.Omega.{arith}
-use Prim.Native.Nat.{◌-◌}
 use mathlib.Core.Path.{refl, ◌∙◌}
 use lib.ListN.{length-set}
 use Rattle.base.proofs.Bytes.{le_bytes_begin, le_bytes_step, le_bytes_end, past_step}

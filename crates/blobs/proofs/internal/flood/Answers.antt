@@ -18,9 +18,6 @@ use Rattle.blobs.proofs.Sides.{sides_most}
 use Rattle.blobs.proofs.Stacks.{length_stack, stack_pop, stack_none, begun_is, flood_step_is, grow_area, flood_is, no_blob_area}
 use Rattle.blobs.proofs.internal.flood.Goals as goal
 
-abbrev now_flooding : (c : goal.At-loop-top) → Flooding
-now_flooding c = flooding c.loop-top.seen (stack_of c.loop-top.waiting c.loop-top.top) c.loop-top.blob c.loop-top.waited
-
 pub no_blob-blob-requires : goal.no_blob-blob-requires
 no_blob-blob-requires c = c.requires.0.pixel.wide
 
@@ -54,12 +51,12 @@ pub offset_bounds-waiting-low : goal.offset_bounds-waiting-low
 offset_bounds-waiting-low c =
     let waiting_some : 0 < length c.args.waiting.now = let g = c.requires in omega (arith, g.0.pixel.inside, g.1) in
     let state : let a = c.args in
-    now_flooding c ≡ turns c.loop-top.blob.area (flood_step a.mask.now a.w) (begun a.w a.a a.seen.now) = let s = c.args in
+    flooding c.loop-top.seen (stack_of c.loop-top.waiting c.loop-top.top) c.loop-top.blob c.loop-top.waited ≡ turns c.loop-top.blob.area (flood_step a.mask.now a.w) (begun a.w a.a a.seen.now) = let s = c.args in
     c.loop-top.invariant.0
     ∙ ap (turns c.loop-top.blob.area (flood_step s.mask.now s.w)) (begun_is s.seen.now s.waiting.now s.w s.a
     c.no_blob-blob.result (waiting_some) c.no_blob-blob.ensures) in
     let progress : let a = c.args in
-    Progress a.mask.now a.w a.a a.seen.now (now_flooding c) = subst (Progress c.args.mask.now c.args.w c.args.a c.args.seen.now) (sym (state)) (progress_turns c.requires.0 c.loop-top.blob.area) in
+    Progress a.mask.now a.w a.a a.seen.now (flooding c.loop-top.seen (stack_of c.loop-top.waiting c.loop-top.top) c.loop-top.blob c.loop-top.waited) = subst (Progress c.args.mask.now c.args.w c.args.a c.args.seen.now) (sym (state)) (progress_turns c.requires.0 c.loop-top.blob.area) in
     let counted : c.loop-top.blob.area + c.loop-top.top ≤ length c.args.mask.now = omega (arith, progress_area (progress), length_stack c.loop-top.waiting c.loop-top.top) in
     omega (arith, counted, c.requires.0.pixel.small, c.loop-top-test.true)
 
@@ -67,12 +64,12 @@ pub bounds-waiting-low : goal.bounds-waiting-low
 bounds-waiting-low c =
     let waiting_some : 0 < length c.args.waiting.now = let g = c.requires in omega (arith, g.0.pixel.inside, g.1) in
     let state : let a = c.args in
-    now_flooding c ≡ turns c.loop-top.blob.area (flood_step a.mask.now a.w) (begun a.w a.a a.seen.now) = let s = c.args in
+    flooding c.loop-top.seen (stack_of c.loop-top.waiting c.loop-top.top) c.loop-top.blob c.loop-top.waited ≡ turns c.loop-top.blob.area (flood_step a.mask.now a.w) (begun a.w a.a a.seen.now) = let s = c.args in
     c.loop-top.invariant.0
     ∙ ap (turns c.loop-top.blob.area (flood_step s.mask.now s.w)) (begun_is s.seen.now s.waiting.now s.w s.a
     c.no_blob-blob.result (waiting_some) c.no_blob-blob.ensures) in
     let progress : let a = c.args in
-    Progress a.mask.now a.w a.a a.seen.now (now_flooding c) = subst (Progress c.args.mask.now c.args.w c.args.a c.args.seen.now) (sym (state)) (progress_turns c.requires.0 c.loop-top.blob.area) in
+    Progress a.mask.now a.w a.a a.seen.now (flooding c.loop-top.seen (stack_of c.loop-top.waiting c.loop-top.top) c.loop-top.blob c.loop-top.waited) = subst (Progress c.args.mask.now c.args.w c.args.a c.args.seen.now) (sym (state)) (progress_turns c.requires.0 c.loop-top.blob.area) in
     let long : length c.loop-top.waiting ≡ length c.args.mask.now = let a = c.args in
     c.loop-top.invariant.1 ∙ length-set a.waiting.now 0 a.a ∙ c.requires.1 in
     let counted : c.loop-top.blob.area + c.loop-top.top ≤ length c.args.mask.now = omega (arith, progress_area (progress), length_stack c.loop-top.waiting c.loop-top.top) in
@@ -91,12 +88,12 @@ pub sides-s-requires : goal.sides-s-requires
 sides-s-requires c =
     let waiting_some : 0 < length c.args.waiting.now = let g = c.requires in omega (arith, g.0.pixel.inside, g.1) in
     let state : let a = c.args in
-    now_flooding c ≡ turns c.loop-top.blob.area (flood_step a.mask.now a.w) (begun a.w a.a a.seen.now) = let s = c.args in
+    flooding c.loop-top.seen (stack_of c.loop-top.waiting c.loop-top.top) c.loop-top.blob c.loop-top.waited ≡ turns c.loop-top.blob.area (flood_step a.mask.now a.w) (begun a.w a.a a.seen.now) = let s = c.args in
     c.loop-top.invariant.0
     ∙ ap (turns c.loop-top.blob.area (flood_step s.mask.now s.w)) (begun_is s.seen.now s.waiting.now s.w s.a
     c.no_blob-blob.result (waiting_some) c.no_blob-blob.ensures) in
     let progress : let a = c.args in
-    Progress a.mask.now a.w a.a a.seen.now (now_flooding c) = subst (Progress c.args.mask.now c.args.w c.args.a c.args.seen.now) (sym (state)) (progress_turns c.requires.0 c.loop-top.blob.area) in
+    Progress a.mask.now a.w a.a a.seen.now (flooding c.loop-top.seen (stack_of c.loop-top.waiting c.loop-top.top) c.loop-top.blob c.loop-top.waited) = subst (Progress c.args.mask.now c.args.w c.args.a c.args.seen.now) (sym (state)) (progress_turns c.requires.0 c.loop-top.blob.area) in
     let taken : let a = c.args in let l = c.loop-top in
     Pixel a.mask.now a.w (get_or l.waiting (l.top - 1) 0) = let l = c.loop-top in
     let p = get_or l.waiting (l.top - 1) 0 in
@@ -109,12 +106,12 @@ pub grow-blob-requires : goal.grow-blob-requires
 grow-blob-requires c =
     let waiting_some : 0 < length c.args.waiting.now = let g = c.requires in omega (arith, g.0.pixel.inside, g.1) in
     let state : let a = c.args in
-    now_flooding c ≡ turns c.loop-top.blob.area (flood_step a.mask.now a.w) (begun a.w a.a a.seen.now) = let s = c.args in
+    flooding c.loop-top.seen (stack_of c.loop-top.waiting c.loop-top.top) c.loop-top.blob c.loop-top.waited ≡ turns c.loop-top.blob.area (flood_step a.mask.now a.w) (begun a.w a.a a.seen.now) = let s = c.args in
     c.loop-top.invariant.0
     ∙ ap (turns c.loop-top.blob.area (flood_step s.mask.now s.w)) (begun_is s.seen.now s.waiting.now s.w s.a
     c.no_blob-blob.result (waiting_some) c.no_blob-blob.ensures) in
     let progress : let a = c.args in
-    Progress a.mask.now a.w a.a a.seen.now (now_flooding c) = subst (Progress c.args.mask.now c.args.w c.args.a c.args.seen.now) (sym (state)) (progress_turns c.requires.0 c.loop-top.blob.area) in
+    Progress a.mask.now a.w a.a a.seen.now (flooding c.loop-top.seen (stack_of c.loop-top.waiting c.loop-top.top) c.loop-top.blob c.loop-top.waited) = subst (Progress c.args.mask.now c.args.w c.args.a c.args.seen.now) (sym (state)) (progress_turns c.requires.0 c.loop-top.blob.area) in
     let g = c.requires.0.pixel in
     let l = c.loop-top in
     let v = progress in
@@ -138,12 +135,12 @@ pub spread-top-requires : goal.spread-top-requires
 spread-top-requires c =
     let waiting_some : 0 < length c.args.waiting.now = let g = c.requires in omega (arith, g.0.pixel.inside, g.1) in
     let state : let a = c.args in
-    now_flooding c ≡ turns c.loop-top.blob.area (flood_step a.mask.now a.w) (begun a.w a.a a.seen.now) = let s = c.args in
+    flooding c.loop-top.seen (stack_of c.loop-top.waiting c.loop-top.top) c.loop-top.blob c.loop-top.waited ≡ turns c.loop-top.blob.area (flood_step a.mask.now a.w) (begun a.w a.a a.seen.now) = let s = c.args in
     c.loop-top.invariant.0
     ∙ ap (turns c.loop-top.blob.area (flood_step s.mask.now s.w)) (begun_is s.seen.now s.waiting.now s.w s.a
     c.no_blob-blob.result (waiting_some) c.no_blob-blob.ensures) in
     let progress : let a = c.args in
-    Progress a.mask.now a.w a.a a.seen.now (now_flooding c) = subst (Progress c.args.mask.now c.args.w c.args.a c.args.seen.now) (sym (state)) (progress_turns c.requires.0 c.loop-top.blob.area) in
+    Progress a.mask.now a.w a.a a.seen.now (flooding c.loop-top.seen (stack_of c.loop-top.waiting c.loop-top.top) c.loop-top.blob c.loop-top.waited) = subst (Progress c.args.mask.now c.args.w c.args.a c.args.seen.now) (sym (state)) (progress_turns c.requires.0 c.loop-top.blob.area) in
     let taken : let a = c.args in let l = c.loop-top in
     Pixel a.mask.now a.w (get_or l.waiting (l.top - 1) 0) = let l = c.loop-top in
     let p = get_or l.waiting (l.top - 1) 0 in
@@ -155,25 +152,28 @@ spread-top-requires c =
     let l = c.loop-top in
     let s = c.args in
     let low = l.top - 1 in
-    let e : l.top ≡ low + 1 = omega (arith, c.loop-top-test.true) in record { stacked = record {
+    let e : l.top ≡ low + 1 = omega (arith, c.loop-top-test.true) in record {
+      stacked = record {
         held = held_pop (subst (λ k. Held s.mask.now (marking l.seen k)) (stack_pop l.waiting l.top low e)
             (progress).held);
         long = long;
-      }; pixel = (
+      };
+      pixel = (
         taken,
         refl,
-      ) }
+      );
+    }
 
 pub loop-top-smaller : goal.loop-top-smaller
 loop-top-smaller c =
     let waiting_some : 0 < length c.args.waiting.now = let g = c.requires in omega (arith, g.0.pixel.inside, g.1) in
     let state : let a = c.args in
-    now_flooding c ≡ turns c.loop-top.blob.area (flood_step a.mask.now a.w) (begun a.w a.a a.seen.now) = let s = c.args in
+    flooding c.loop-top.seen (stack_of c.loop-top.waiting c.loop-top.top) c.loop-top.blob c.loop-top.waited ≡ turns c.loop-top.blob.area (flood_step a.mask.now a.w) (begun a.w a.a a.seen.now) = let s = c.args in
     c.loop-top.invariant.0
     ∙ ap (turns c.loop-top.blob.area (flood_step s.mask.now s.w)) (begun_is s.seen.now s.waiting.now s.w s.a
     c.no_blob-blob.result (waiting_some) c.no_blob-blob.ensures) in
     let progress : let a = c.args in
-    Progress a.mask.now a.w a.a a.seen.now (now_flooding c) = subst (Progress c.args.mask.now c.args.w c.args.a c.args.seen.now) (sym (state)) (progress_turns c.requires.0 c.loop-top.blob.area) in
+    Progress a.mask.now a.w a.a a.seen.now (flooding c.loop-top.seen (stack_of c.loop-top.waiting c.loop-top.top) c.loop-top.blob c.loop-top.waited) = subst (Progress c.args.mask.now c.args.w c.args.a c.args.seen.now) (sym (state)) (progress_turns c.requires.0 c.loop-top.blob.area) in
     let counted : c.loop-top.blob.area + c.loop-top.top ≤ length c.args.mask.now = omega (arith, progress_area (progress), length_stack c.loop-top.waiting c.loop-top.top) in
     let g = c.grow-blob in
     omega (arith, counted, c.loop-top-test.true, grow_area c.loop-top.blob g.result _ _ _ g.ensures)
@@ -200,12 +200,12 @@ pub shape_of-seen : goal.shape_of-seen
 shape_of-seen c =
     let waiting_some : 0 < length c.args.waiting.now = let g = c.requires in omega (arith, g.0.pixel.inside, g.1) in
     let state : let a = c.args in
-    now_flooding c ≡ turns c.loop-top.blob.area (flood_step a.mask.now a.w) (begun a.w a.a a.seen.now) = let s = c.args in
+    flooding c.loop-top.seen (stack_of c.loop-top.waiting c.loop-top.top) c.loop-top.blob c.loop-top.waited ≡ turns c.loop-top.blob.area (flood_step a.mask.now a.w) (begun a.w a.a a.seen.now) = let s = c.args in
     c.loop-top.invariant.0
     ∙ ap (turns c.loop-top.blob.area (flood_step s.mask.now s.w)) (begun_is s.seen.now s.waiting.now s.w s.a
     c.no_blob-blob.result (waiting_some) c.no_blob-blob.ensures) in
     let progress : let a = c.args in
-    Progress a.mask.now a.w a.a a.seen.now (now_flooding c) = subst (Progress c.args.mask.now c.args.w c.args.a c.args.seen.now) (sym (state)) (progress_turns c.requires.0 c.loop-top.blob.area) in
+    Progress a.mask.now a.w a.a a.seen.now (flooding c.loop-top.seen (stack_of c.loop-top.waiting c.loop-top.top) c.loop-top.blob c.loop-top.waited) = subst (Progress c.args.mask.now c.args.w c.args.a c.args.seen.now) (sym (state)) (progress_turns c.requires.0 c.loop-top.blob.area) in
     (progress).held.long ∙ sym c.requires.0.long
 
 pub shape_of-waiting : goal.shape_of-waiting
@@ -218,12 +218,12 @@ pub returns : goal.returns
 returns c =
     let waiting_some : 0 < length c.args.waiting.now = let g = c.requires in omega (arith, g.0.pixel.inside, g.1) in
     let state : let a = c.args in
-    now_flooding c ≡ turns c.loop-top.blob.area (flood_step a.mask.now a.w) (begun a.w a.a a.seen.now) = let s = c.args in
+    flooding c.loop-top.seen (stack_of c.loop-top.waiting c.loop-top.top) c.loop-top.blob c.loop-top.waited ≡ turns c.loop-top.blob.area (flood_step a.mask.now a.w) (begun a.w a.a a.seen.now) = let s = c.args in
     c.loop-top.invariant.0
     ∙ ap (turns c.loop-top.blob.area (flood_step s.mask.now s.w)) (begun_is s.seen.now s.waiting.now s.w s.a
     c.no_blob-blob.result (waiting_some) c.no_blob-blob.ensures) in
     let progress : let a = c.args in
-    Progress a.mask.now a.w a.a a.seen.now (now_flooding c) = subst (Progress c.args.mask.now c.args.w c.args.a c.args.seen.now) (sym (state)) (progress_turns c.requires.0 c.loop-top.blob.area) in
+    Progress a.mask.now a.w a.a a.seen.now (flooding c.loop-top.seen (stack_of c.loop-top.waiting c.loop-top.top) c.loop-top.blob c.loop-top.waited) = subst (Progress c.args.mask.now c.args.w c.args.a c.args.seen.now) (sym (state)) (progress_turns c.requires.0 c.loop-top.blob.area) in
     let counted : c.loop-top.blob.area + c.loop-top.top ≤ length c.args.mask.now = omega (arith, progress_area (progress), length_stack c.loop-top.waiting c.loop-top.top) in
     let l = c.loop-top in
     let m = c.args.mask.now in

@@ -79,8 +79,8 @@ list-k-requires c =
     let a = c.args in
     let mask_is : take (a.w * a.h) c.planes.new.mask ≡ mask_plane (image a.w a.h a.capture.now) a.frame = mask_front _ _ _ c.requires c.planes.ensures.mask_is in
     let label_is :
-        Labels (mask_plane (image a.w a.h a.capture.now) a.frame) a.w a.h (patch_areas a.seen.now a.waiting.now a.patches.now)
-        (patch_areas c.label-labelled.new.seen c.label-labelled.new.waiting c.label-labelled.new.patches) c.label-labelled.result.patches c.label-labelled.result.waited = labels_as mask_is c.label-labelled.ensures in
+    Labels (mask_plane (image a.w a.h a.capture.now) a.frame) a.w a.h (patch_areas a.seen.now a.waiting.now a.patches.now)
+    (patch_areas c.label-labelled.new.seen c.label-labelled.new.waiting c.label-labelled.new.patches) c.label-labelled.result.patches c.label-labelled.result.waited = labels_as mask_is c.label-labelled.ensures in
     let luma_is : take (a.w * a.h) c.planes.new.luma ≡ luma_plane (image a.w a.h a.capture.now) = luma_front _ _ _ c.requires c.planes.ensures.luma_is in
     listable_as mask_is luma_is (listable _ _ _ c.requires label_is)
 
@@ -89,7 +89,7 @@ returns c =
     let a = c.args in
     let mask_is : take (a.w * a.h) c.planes.new.mask ≡ mask_plane (image a.w a.h a.capture.now) a.frame = mask_front _ _ _ c.requires c.planes.ensures.mask_is in
     let label_is :
-        Labels (mask_plane (image a.w a.h a.capture.now) a.frame) a.w a.h (patch_areas a.seen.now a.waiting.now a.patches.now)
-        (patch_areas c.label-labelled.new.seen c.label-labelled.new.waiting c.label-labelled.new.patches) c.label-labelled.result.patches c.label-labelled.result.waited = labels_as mask_is c.label-labelled.ensures in
+    Labels (mask_plane (image a.w a.h a.capture.now) a.frame) a.w a.h (patch_areas a.seen.now a.waiting.now a.patches.now)
+    (patch_areas c.label-labelled.new.seen c.label-labelled.new.waiting c.label-labelled.new.patches) c.label-labelled.result.patches c.label-labelled.result.waited = labels_as mask_is c.label-labelled.ensures in
     let luma_is : take (a.w * a.h) c.planes.new.luma ≡ luma_plane (image a.w a.h a.capture.now) = luma_front _ _ _ c.requires c.planes.ensures.luma_is in
     looked _ _ _ c.requires c.planes.ensures label_is (candidates_as mask_is luma_is c.list-k.ensures)

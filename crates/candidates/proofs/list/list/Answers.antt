@@ -19,8 +19,11 @@ blob_at-requires c =
 pub candidate_of-ring-requires : goal.candidate_of-ring-requires
 candidate_of-ring-requires c =
     let a = c.args in
-    let r = c.requires in record { fact_1 = r.planes; fact_2 = subst (λ z. BlobHeld a.w a.h z) (sym c.blob_at.ensures)
-          (blob_held a.w a.h a.mask.now a.luma.now _ _ r.planes (r.patches.records c.loop-j.j c.loop-j-test.true)) }
+    let r = c.requires in record {
+      fact_1 = r.planes;
+      fact_2 = subst (λ z. BlobHeld a.w a.h z) (sym c.blob_at.ensures)
+          (blob_held a.w a.h a.mask.now a.luma.now _ _ r.planes (r.patches.records c.loop-j.j c.loop-j-test.true));
+    }
 
 pub store-k-requires : goal.store-k-requires
 store-k-requires c =

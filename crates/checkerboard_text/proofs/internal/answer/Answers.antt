@@ -15,5 +15,5 @@ slice_bounds-answer_text-end c =
 pub returns : goal.returns
 returns c =
     let v = c.answer_text in
-    let long = c.all-1.given.0 in
+    let long = c.all-1.given in
     let t = take v.result v.new.out in record { answered_whole = λ b e. cut_answers (length c.args.input.now) (omega (arith, long)) b t (subst (λ x. Answered x t) e v.ensures.answered); upper_bound = v.ensures.upper_bound }

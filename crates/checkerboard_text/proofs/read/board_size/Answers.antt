@@ -1,8 +1,7 @@
 -- `checkerboard_text::read::board_size` meets its contract. Assumes nothing.
 use native.Mathlib.Omega.{arith}
-use Prim.Native.Nat.{ℕ, ◌+◌, ◌≤◌}
-use mathlib.Core.List.{List}
-use mathlib.Core.Path.{◌≡◌, sym, ap, subst, ◌∙◌}
+use Prim.Native.Nat.{◌+◌, ◌≤◌}
+use mathlib.Core.Path.{sym, ap, subst, ◌∙◌}
 use lib.ListN.{length, get_or}
 use lib.Seq.{length-take-le}
 use Rattle.checkerboard_text.specs.Steps.{Side, blank_place}
@@ -47,32 +46,26 @@ slice_bounds-side-count c = omega (arith, blank_early c)
 pub slice_bounds-side-start : goal.slice_bounds-side-start
 slice_bounds-side-start c = omega (arith, blank_early c)
 
--- what the two sides were read as
-abbrev text : (c : goal.After-side-h) → List ℕ
-text c = c.args.text.now
-
-abbrev found : (c : goal.After-side-h) → c.blank_place-at.result ≡ blank_place text
-found c = c.blank_place-at.ensures
-
+-- the two sides as they were read: `width` and `height` below
 pub returns-then-w-eq0 : goal.returns-then-w-eq0
 returns-then-w-eq0 c =
-    let height : Side (middle text (blank_place text)) c.side-h.result = subst (λ i. Side (middle (text c) i) c.side-h.result) (found c) c.side-h.ensures in
-    let width : Side (front text (blank_place text)) c.side-w.result = subst (λ i. Side (front (text c) i) c.side-w.result) (found c) c.side-w.ensures in
+    let height : Side (middle c.args.text.now (blank_place c.args.text.now)) c.side-h.result = subst (λ i. Side (middle c.args.text.now i) c.side-h.result) c.blank_place-at.ensures c.side-h.ensures in
+    let width : Side (front c.args.text.now (blank_place c.args.text.now)) c.side-w.result = subst (λ i. Side (front c.args.text.now i) c.side-w.result) c.blank_place-at.ensures c.side-w.ensures in
     no_size (no_width (width) (height) c.if-w-eq0.true) c.none-then-w-eq0.ensures.0
 
 pub returns-then-h-eq0 : goal.returns-then-h-eq0
 returns-then-h-eq0 c =
-    let height : Side (middle text (blank_place text)) c.side-h.result = subst (λ i. Side (middle (text c) i) c.side-h.result) (found c) c.side-h.ensures in
-    let width : Side (front text (blank_place text)) c.side-w.result = subst (λ i. Side (front (text c) i) c.side-w.result) (found c) c.side-w.ensures in
+    let height : Side (middle c.args.text.now (blank_place c.args.text.now)) c.side-h.result = subst (λ i. Side (middle c.args.text.now i) c.side-h.result) c.blank_place-at.ensures c.side-h.ensures in
+    let width : Side (front c.args.text.now (blank_place c.args.text.now)) c.side-w.result = subst (λ i. Side (front c.args.text.now i) c.side-w.result) c.blank_place-at.ensures c.side-w.ensures in
     no_size (no_height (width) (height) c.if-h-eq0.true) c.none-then-h-eq0.ensures.0
 
 pub returns : goal.returns
 returns c =
-    let height : Side (middle text (blank_place text)) c.side-h.result = subst (λ i. Side (middle (text c) i) c.side-h.result) (found c) c.side-h.ensures in
-    let width : Side (front text (blank_place text)) c.side-w.result = subst (λ i. Side (front (text c) i) c.side-w.result) (found c) c.side-w.ensures in
+    let height : Side (middle c.args.text.now (blank_place c.args.text.now)) c.side-h.result = subst (λ i. Side (middle c.args.text.now i) c.side-h.result) c.blank_place-at.ensures c.side-h.ensures in
+    let width : Side (front c.args.text.now (blank_place c.args.text.now)) c.side-w.result = subst (λ i. Side (front c.args.text.now i) c.side-w.result) c.blank_place-at.ensures c.side-w.ensures in
     size_is (width) (height)
     (omega (arith, c.if-n-lt4.false))
-    (ap (λ i. get_or (text c) i 0) (sym (found c)) ∙ c.if-text-at-ne32.false)
+    (ap (λ i. get_or c.args.text.now i 0) (sym c.blank_place-at.ensures) ∙ c.if-text-at-ne32.false)
     c.if-text-n-ne10.false
     c.if-w-eq0.false
     c.if-h-eq0.false

@@ -12,7 +12,7 @@ returns-in-NoHomography c =
     ap
     (λ (s : Places). record { number = 10; stage = a.stage; places = s; patches = a.d.patches; candidates = a.d.candidates; waited = a.d.waited })
     c.no_places-places.ensures
-    ∙ report_none a.d a.stage (ap keeps c.enum_told-1.given.1)
+    ∙ report_none a.d a.stage (ap keeps c.in-NoHomography.is)
 
 pub returns-in-Graded : goal.returns-in-Graded
 unfolding keeps

@@ -1,5 +1,5 @@
 -- `float::root_by_digits` meets its contract: the invariant is `State`. Assumes nothing.
-use Rattle.std.proofs.Common.{◌≡◌, ℕ, ◌+◌, ◌-◌, ◌*◌, ◌^◌, ◌<◌, Bool, true, false, cond, ltb, sym, ap, ◌∙◌, ◌≤◌, arith, le-ltb, lt-ltb}
+use Rattle.std.proofs.Common.{◌≡◌, ℕ, ◌+◌, ◌*◌, ◌^◌, ◌<◌, Bool, true, false, cond, ltb, sym, ap, ◌∙◌, ◌≤◌, arith, le-ltb, lt-ltb}
 use Rattle.float.specs.Root.{nearest_root}
 use Rattle.float.proofs.root.Squares.{nearest_is}
 use Rattle.float.proofs.root.Digits.{State, start, step_one, step_zero, finish, same}
@@ -12,7 +12,7 @@ loop-i-init c = start c.args.a c.requires
 pub loop-i-preserved : goal.loop-i-preserved
 loop-i-preserved c =
     elim c.if-r-next.branch [
-        then-r-next w ↦ same _ _ (step_one _ _ _ _ _ c.loop-i.invariant c.loop-i-test.true w.if-r-next.true) w.r-is w.e-is
+      | then-r-next w ↦ same _ _ (step_one _ _ _ _ _ c.loop-i.invariant c.loop-i-test.true w.if-r-next.true) w.r-is w.e-is
       | else-r-next w ↦ same _ _ (step_zero _ _ _ _ _ c.loop-i.invariant c.loop-i-test.true w.if-r-next.false) w.r-is w.e-is
     ]
 

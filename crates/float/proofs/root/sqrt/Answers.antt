@@ -64,8 +64,8 @@ returns-then-b-lt4503599627370496 c =
     let x = c.args.x in
     let g = 1024 - (count_leading_zeros 64 (to_bits binary64 x) - 11) in
     let r = both x _ _ g (subnormal x held over c.if-b-lt4503599627370496.true)
-        (c.scaled_root.ensures
-        ∙ ap (λ (z : ℕ). units binary64 false (nearest_root (z * 2 ^ (g % 2) * 2 ^ 52)) (g / 2 - 1)) (shl_is x held over c.if-b-lt4503599627370496.true)) in
+    (c.scaled_root.ensures
+    ∙ ap (λ (z : ℕ). units binary64 false (nearest_root (z * 2 ^ (g % 2) * 2 ^ 52)) (g / 2 - 1)) (shl_is x held over c.if-b-lt4503599627370496.true)) in
     record { value = r.0; nearest_root = r.1 }
 
 pub returns-then-b-lt9218868437227405312 : goal.returns-then-b-lt9218868437227405312

@@ -31,9 +31,9 @@ overflow_add-result c =
     let number : T (not (is_nan c.args.x)) = not_nan c.args.x c.if-x.false in
     let held : T (fits binary64 c.args.x) = subst T (sym c.well_formed.0.1) tt in
     record {
-  fits = lt_of_lt_of_le (in_normal c.args.x (held)
-      (number) c.if-mag-ge4039728865751334912.true c.if-mag-lt5183643171103440896.true).2 (lit≤ tt);
-}
+      fits = lt_of_lt_of_le (in_normal c.args.x (held)
+          (number) c.if-mag-ge4039728865751334912.true c.if-mag-lt5183643171103440896.true).2 (lit≤ tt);
+    }
 
 pub overflow_cast-result : goal.overflow_cast-result
 overflow_cast-result c =
@@ -88,9 +88,9 @@ overflow_add-result-then-mag-ge3927138875067072512 c =
     let number : T (not (is_nan c.args.x)) = not_nan c.args.x c.if-x.false in
     let held : T (fits binary64 c.args.x) = subst T (sym c.well_formed.0.1) tt in
     record {
-  fits = lt_of_lt_of_le (in_coded c.args.x (held)
-      (number) c.if-mag-ge3927138875067072512.true c.if-mag-ge4039728865751334912.false).2 (lit≤ tt);
-}
+      fits = lt_of_lt_of_le (in_coded c.args.x (held)
+          (number) c.if-mag-ge3927138875067072512.true c.if-mag-ge4039728865751334912.false).2 (lit≤ tt);
+    }
 
 pub overflow_cast-result-then-mag-ge3927138875067072512 : goal.overflow_cast-result-then-mag-ge3927138875067072512
 overflow_cast-result-then-mag-ge3927138875067072512 c =

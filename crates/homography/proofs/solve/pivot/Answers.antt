@@ -1,5 +1,4 @@
 -- `pivot` meets its contract. The loop's invariant: piv is the pivot among the rows from col up to r. Assumes nothing.
-use mathlib.Core.Logic.{⊎_elim}
 use mathlib.Core.Path.{◌≡◌, sym, ap, ◌∙◌}
 use Prim.Native.Nat.{◌≤◌, ◌+◌, ◌-◌}
 use native.Mathlib.Omega.{arith}
@@ -10,6 +9,7 @@ use Rattle.homography.proofs.Steps.{better_yes, better_no}
 use Rattle.homography.specs.Arithmetic.{rounded}
 use Rattle.homography.specs.Elimination.{entry, pivot_of}
 use Rattle.homography.proofs.solve.pivot.Goals as goal
+use Rattle.homography.proofs.solve.pivot.Goals.{then-abs, else-abs}
 
 pub loop-r-init : goal.loop-r-init
 loop-r-init c = (between_begin _ _ _, omega arith, omega arith, omega arith)
@@ -26,10 +26,10 @@ loop-r-preserved c =
     let step = between_step _ _ _ c.loop-r.r c.loop-r.invariant.1 c.loop-r.invariant.0 in
     let low : col + 1 ≤ c.loop-r.r + 1 = omega arith in
     let high : c.loop-r.r + 1 ≤ 8 = omega arith in
-    ⊎_elim
-    (λ w. (w.1 ∙ better_yes a col c.loop-r.r c.loop-r.piv (test ∙ w.0.taken) ∙ step, low, high, omega arith))
-    (λ w. (w.1 ∙ better_no a col c.loop-r.r c.loop-r.piv (test ∙ w.0.left) ∙ step, low, high, omega arith))
-    c.if-abs.branch
+    elim c.if-abs.branch [
+      | then-abs w ↦ (w.piv-is ∙ better_yes a col c.loop-r.r c.loop-r.piv (test ∙ w.if-abs.true) ∙ step, low, high, omega arith)
+      | else-abs w ↦ (w.piv-is ∙ better_no a col c.loop-r.r c.loop-r.piv (test ∙ w.if-abs.false) ∙ step, low, high, omega arith)
+    ]
 
 pub returns : goal.returns
 unfolding pivot_of

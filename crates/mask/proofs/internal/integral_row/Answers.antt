@@ -12,18 +12,14 @@ use Rattle.mask.specs.Mask.{row_step, row_sum}
 use Rattle.mask.proofs.Entries.{Place, place, side, entry, above}
 use Rattle.mask.proofs.internal.integral_row.Goals as goal
 
-begin : (c : goal.After-slice_known-1) → let a = c.args in
-    Place 0 (a.y + 1) (a.w + 1) (a.h + 1)
-begin c = place _ _ _ _ (omega arith) (omega arith)
-
 pub overflow_mul-base : goal.overflow_mul-base
-overflow_mul-base c = let k = begin c in omega arith
+overflow_mul-base c = let k : Place 0 (c.args.y + 1) (c.args.w + 1) (c.args.h + 1) = place _ _ _ _ (omega arith) (omega arith) in omega arith
 
 pub offset_bounds-integral-base : goal.offset_bounds-integral-base
-offset_bounds-integral-base c = let k = begin c in omega arith
+offset_bounds-integral-base c = let k : Place 0 (c.args.y + 1) (c.args.w + 1) (c.args.h + 1) = place _ _ _ _ (omega arith) (omega arith) in omega arith
 
 pub bounds-integral-base : goal.bounds-integral-base
-bounds-integral-base c = let k = begin c in omega arith
+bounds-integral-base c = let k : Place 0 (c.args.y + 1) (c.args.w + 1) (c.args.h + 1) = place _ _ _ _ (omega arith) (omega arith) in omega arith
 
 pub loop-x-init : goal.loop-x-init
 unfolding row_sum of_bits of_int
@@ -78,8 +74,10 @@ offset_bounds-luma-i c =
     let k = here in omega arith
 
 pub bounds-luma-i : goal.bounds-luma-i
-    tie.Need-shared-slice-read-widen invariant-loop decreases-loop
-bounds-luma-i c = let k = here c in omega arith
+bounds-luma-i c =
+    let here : let a = c.args in
+    Place c.loop-x.x a.y a.w a.h = place _ _ _ _ (omega arith) (omega arith) in
+    let k = here in omega arith
 
 pub offset_bounds-integral-up : goal.offset_bounds-integral-up
 offset_bounds-integral-up c =

@@ -45,8 +45,7 @@ put_next-requires c =
 
 pub pass-at-requires : goal.pass-at-requires
 pass-at-requires c =
-    let k = c.loop-k in
-    (
+    let k = c.loop-k in (
       omega (arith, k.invariant.within.first_within, count_few c.args.first.now (λ i. omega (arith, c.type_inv.first i)) (omega (arith, c.requires.0.first_whole))),
       omega (arith, k.invariant.within.second_within, count_few c.args.second.now (λ i. omega (arith, c.type_inv.second i)) (omega (arith, c.requires.0.second_whole))),
     )

@@ -32,8 +32,7 @@ count_key-p-requires c =
     let turned : Turn c.args.first.now c.args.second.now c.loop-at.at c.next-side.result = let k = c.loop-at in
     subst (Turn _ _ k.at) (sym c.next-side.ensures) (turn _ _ k.at k.invariant.within (some_left)) in
     let wholes : Whole c.args.first.now c.args.second.now = record { first_whole = whole _ c.requires.first_accepted; second_whole = whole _ c.requires.second_accepted } in
-    let k = c.loop-at in
-    (
+    let k = c.loop-at in (
       wholes,
       turn_held _ _ _ _ (turned),
       omega (arith, k.invariant.few, k.invariant.within.first_within, k.invariant.within.second_within, c.count-seconds.ensures, c.count-firsts.ensures),
@@ -41,8 +40,7 @@ count_key-p-requires c =
 
 pub pass-at-requires : goal.pass-at-requires
 pass-at-requires c =
-    let k = c.loop-at in
-    (
+    let k = c.loop-at in (
       omega (arith, k.invariant.within.first_within, c.count-firsts.ensures),
       omega (arith, k.invariant.within.second_within, c.count-seconds.ensures),
     )

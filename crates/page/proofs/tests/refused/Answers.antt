@@ -16,11 +16,10 @@ pub returns-then-count-gt-MOST_CANDIDATES : goal.returns-then-count-gt-MOST_CAND
 returns-then-count-gt-MOST_CANDIDATES c = (gives_13_many _ _ _ c.if-candidates-count.false c.if-page-count.false c.if-count-gt-MOST_CANDIDATES.true, λ e. absurd (omega arith))
 
 pub returns-then-not-every_printable : goal.returns-then-not-every_printable
-returns-then-not-every_printable c =
-    (
-      gives_13 _ _ _ c.if-candidates-count.false c.if-page-count.false (sym c.every_printable.ensures ∙ not-true _ (ap not c.if-not-every_printable.true)),
-      λ e. absurd (omega arith),
-    )
+returns-then-not-every_printable c = (
+  gives_13 _ _ _ c.if-candidates-count.false c.if-page-count.false (sym c.every_printable.ensures ∙ not-true _ (ap not c.if-not-every_printable.true)),
+  λ e. absurd (omega arith),
+)
 
 pub returns : goal.returns
 returns c =

@@ -4,7 +4,6 @@ use native.Mathlib.Omega.{arith}
 use mathlib.Core.Path.{◌≡◌, sym, ap, ◌∙◌}
 use mathlib.Core.Bool.{true, false}
 use lib.ListN.{length}
-use borrow.Author.Tests.{not-true, not-false}
 use Rattle.patch_text.specs.Steps.{placed, placed_at, all}
 use Rattle.patch_text.proofs.Texts.{all_none, all_more, all_fails}
 use Rattle.patch_text.proofs.read.lettered.Goals as goal
@@ -13,13 +12,13 @@ use Rattle.patch_text.proofs.read.lettered.Goals as goal
 placed_is : (c : goal.Then-not-placed) → let a = c.args in
     placed_at a.text.now a.w c.loop-k.k ≡ false
 unfolding placed_at
-placed_is c = sym c.placed.ensures ∙ not-true _ (ap not c.if-not-placed.true)
+placed_is c = sym c.placed.ensures ∙ c.if-not-placed.true
 
 -- .. and does
 placed_then : (c : goal.Else-not-placed) → let a = c.args in
     placed_at a.text.now a.w c.loop-k.k ≡ true
 unfolding placed_at
-placed_then c = sym c.placed.ensures ∙ not-false _ (ap not c.if-not-placed.false)
+placed_then c = sym c.placed.ensures ∙ c.if-not-placed.false
 
 pub loop-k-init : goal.loop-k-init
 loop-k-init c = (all_none _, omega arith)

@@ -2,7 +2,6 @@
 use Prim.Native.Nat.{◌≤◌}
 use native.Mathlib.Omega.{arith}
 use mathlib.Core.Path.{sym, ◌∙◌}
-use borrow.Author.Tests.{not-true, not-false}
 use Rattle.patch_text.proofs.Texts.{measured_none, measured_reads, no_line, wide_line, uneven, many_lines, unlettered, lettered_mask}
 use Rattle.patch_text.proofs.read.mask_size.Goals as goal
 
@@ -42,7 +41,7 @@ lettered-requires c = omega (arith, c.if-w-gt64.false)
 
 pub returns-then-not-lettered : goal.returns-then-not-lettered
 returns-then-not-lettered c =
-    measured_none _ _ c.none-then-not-lettered.ensures.0 (unlettered c.args.text.now c.line_length-w.result c.line_length-w.ensures c.closed_length-whole.result c.closed_length-whole.ensures (sym c.lettered.ensures ∙ not-true _ (ap not c.if-not-lettered.true)))
+    measured_none _ _ c.none-then-not-lettered.ensures.0 (unlettered c.args.text.now c.line_length-w.result c.line_length-w.ensures c.closed_length-whole.result c.closed_length-whole.ensures (sym c.lettered.ensures ∙ c.if-not-lettered.true))
 
 pub returns : goal.returns
 returns c =
@@ -50,4 +49,4 @@ returns c =
       arith,
       c.if-w-eq0.false,
     ) in
-    measured_reads _ _ some (lettered_mask c.args.text.now c.line_length-w.result c.line_length-w.ensures c.closed_length-whole.result c.closed_length-whole.ensures some c.if-w-gt64.false c.if-whole-w-ne0.false c.if-h-gt64.false (sym c.lettered.ensures ∙ not-false _ (ap not c.if-not-lettered.false)))
+    measured_reads _ _ some (lettered_mask c.args.text.now c.line_length-w.result c.line_length-w.ensures c.closed_length-whole.result c.closed_length-whole.ensures some c.if-w-gt64.false c.if-whole-w-ne0.false c.if-h-gt64.false (sym c.lettered.ensures ∙ c.if-not-lettered.false))

@@ -5,7 +5,7 @@ use Rattle.search.proofs.stages.keeps.Goals as goal
 
 pub returns-in-NoHomography : goal.returns-in-NoHomography
 unfolding keeps
-returns-in-NoHomography c = sym (ap keeps c.enum_told-1.given.1)
+returns-in-NoHomography c = sym (ap keeps c.in-NoHomography.is)
 
 pub returns-in-Graded : goal.returns-in-Graded
 unfolding keeps

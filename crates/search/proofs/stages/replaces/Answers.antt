@@ -6,7 +6,7 @@ use mathlib.Core.Path.{◌≡◌, ◌∙◌}
 use Rattle.search.proofs.stages.replaces.Goals as goal
 
 pub returns-in-NoHomography : goal.returns-in-NoHomography
-returns-in-NoHomography c = replaces_none _ c.enum_told-1.given.1
+returns-in-NoHomography c = replaces_none _ c.in-NoHomography.is
 
 pub returns-in-Graded : goal.returns-in-Graded
 returns-in-Graded c =

@@ -10,4 +10,4 @@ returns-in-Are c = sym (ap centers_value c.in-Are.is)
 
 pub returns-in-Refused : goal.returns-in-Refused
 unfolding centers_value of_bits of_int
-returns-in-Refused c = sym (ap centers_value c.enum_told-1.given.1)
+returns-in-Refused c = sym (ap centers_value c.in-Refused.is)

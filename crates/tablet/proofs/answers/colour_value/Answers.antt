@@ -9,4 +9,4 @@ returns-in-Is c = sym (ap colour_value c.in-Is.is)
 
 pub returns-in-Refused : goal.returns-in-Refused
 unfolding colour_value
-returns-in-Refused c = sym (ap colour_value c.enum_told-1.given.1)
+returns-in-Refused c = sym (ap colour_value c.in-Refused.is)

@@ -5,7 +5,7 @@ use Rattle.tablet.proofs.answers.count_number.Goals as goal
 
 pub returns-in-Is : goal.returns-in-Is
 unfolding number_refusal
-returns-in-Is c = sym (ap number_refusal c.enum_told-1.given.1)
+returns-in-Is c = sym (ap number_refusal c.in-Is.is)
 
 pub returns-in-Refused : goal.returns-in-Refused
 unfolding number_refusal

@@ -9,4 +9,4 @@ returns-in-Is c = sym (ap number_value c.in-Is.is)
 
 pub returns-in-Refused : goal.returns-in-Refused
 unfolding number_value
-returns-in-Refused c = sym (ap number_value c.enum_told-1.given.1)
+returns-in-Refused c = sym (ap number_value c.in-Refused.is)

@@ -5,7 +5,7 @@ use Rattle.tablet.proofs.answers.lens_number.Goals as goal
 
 pub returns-in-Is : goal.returns-in-Is
 unfolding lens_refusal
-returns-in-Is c = sym (ap lens_refusal c.enum_told-1.given.1)
+returns-in-Is c = sym (ap lens_refusal c.in-Is.is)
 
 pub returns-in-Refused : goal.returns-in-Refused
 unfolding lens_refusal

@@ -10,4 +10,4 @@ returns-in-Is c = sym (ap lens_value c.in-Is.is)
 
 pub returns-in-Refused : goal.returns-in-Refused
 unfolding lens_value of_bits of_int
-returns-in-Refused c = sym (ap lens_value c.enum_told-1.given.1)
+returns-in-Refused c = sym (ap lens_value c.in-Refused.is)

@@ -5,7 +5,7 @@ use Rattle.tablet.proofs.answers.number_of.Goals as goal
 
 pub returns-in-Accepted : goal.returns-in-Accepted
 unfolding number_of
-returns-in-Accepted c = sym (ap number_of c.enum_told-1.given.1)
+returns-in-Accepted c = sym (ap number_of c.in-Accepted.is)
 
 pub returns-in-Refused : goal.returns-in-Refused
 unfolding number_of

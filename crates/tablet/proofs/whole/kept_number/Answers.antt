@@ -5,7 +5,7 @@ use Rattle.tablet.proofs.whole.kept_number.Goals as goal
 
 pub returns-in-NoHomography : goal.returns-in-NoHomography
 unfolding kept_number
-returns-in-NoHomography c = sym (ap kept_number c.enum_told-1.given.1)
+returns-in-NoHomography c = sym (ap kept_number c.in-NoHomography.is)
 
 pub returns-in-Graded : goal.returns-in-Graded
 unfolding kept_number

@@ -6,7 +6,7 @@ use Rattle.tablet.proofs.whole.kept_score.Goals as goal
 
 pub returns-in-NoHomography : goal.returns-in-NoHomography
 unfolding kept_score neg div of_bits
-returns-in-NoHomography c = sym (ap kept_score c.enum_told-1.given.1)
+returns-in-NoHomography c = sym (ap kept_score c.in-NoHomography.is)
 
 pub returns-in-Graded : goal.returns-in-Graded
 unfolding kept_score

@@ -1,6 +1,5 @@
 -- `windows::rectangles::every_rectangle` meets its contract. Assumes nothing.
 use borrow.Author.Rules.{rules}
-use borrow.Author.Tests.{not-true, not-false}
 use native.Mathlib.Omega.{arith}
 use mathlib.Core.Path.{◌≡◌, sym, ap, ◌∙◌}
 use mathlib.Core.Bool.{true}
@@ -16,13 +15,13 @@ pub returns-then-not-valid : goal.returns-then-not-valid
 returns-then-not-valid c =
     let tested : valid (rectangle_at c.args.windows.now c.loop-i.i) ≡ c.valid.result = sym (c.valid.ensures ∙ ap valid c.rectangle_at-r.ensures) in
     let k = c.loop-i in
-    sym (every_stops _ k.i c.args.k (omega arith) (tested ∙ not-true _ (ap not c.if-not-valid.true)))
+    sym (every_stops _ k.i c.args.k (omega arith) (tested ∙ c.if-not-valid.true))
 
 pub loop-i-preserved : goal.loop-i-preserved
 loop-i-preserved c =
     let tested : valid (rectangle_at c.args.windows.now c.loop-i.i) ≡ c.valid.result = sym (c.valid.ensures ∙ ap valid c.rectangle_at-r.ensures) in
     let k = c.loop-i in
-    (every_more _ k.i k.invariant.0 (tested ∙ not-false _ (ap not c.if-not-valid.false)), omega arith)
+    (every_more _ k.i k.invariant.0 (tested ∙ c.if-not-valid.false), omega arith)
 
 pub returns : goal.returns
 returns c =

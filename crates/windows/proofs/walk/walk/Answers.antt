@@ -1,7 +1,6 @@
 -- `windows::walk::walk` meets its contract. The loop's invariant: the tallies are those of the first j patches, whose boxes are all
 -- valid. Assumes nothing.
 use borrow.Author.Rules.{rules}
-use borrow.Author.Tests.{not-true, not-false}
 use native.Mathlib.Omega.{arith}
 use Prim.Native.Nat.{ℕ, ◌≤◌, ◌<◌, ◌-◌}
 use mathlib.Core.Path.{◌≡◌, sym, ap, subst, ◌∙◌}
@@ -24,7 +23,7 @@ pub returns-then-not-valid : goal.returns-then-not-valid
 returns-then-not-valid c =
     let tested : valid (box_at c.args.patches.now c.loop-j.j) ≡ c.valid.result = sym (c.valid.ensures ∙ ap valid c.box_at-b.ensures) in
     let k = c.loop-j in
-    let e = every_stops _ k.j c.args.n (omega arith) (tested ∙ not-true _ (ap not c.if-not-valid.true)) in
+    let e = every_stops _ k.j c.args.n (omega arith) (tested ∙ c.if-not-valid.true) in
     (sym e, λ h. absurd (true≢false (sym h)))
 
 pub meet_all-requires : goal.meet_all-requires
@@ -41,7 +40,7 @@ meet_all-requires c =
       p.2,
       p.3,
       subst Valid (sym c.box_at-b.ensures)
-          (valid_is _ (tested ∙ not-false _ (ap not c.if-not-valid.false))),
+          (valid_is _ (tested ∙ c.if-not-valid.false)),
       omega arith,
       few,
     )
@@ -57,7 +56,7 @@ loop-j-preserved c =
           ∙ tallies_on (λ i. met (rect i) e.result k.j) (λ i. tally_of boxes k.j (rect i)) c.args.k no_tallies (none_long _ c.requires.1) k.invariant.0
           ∙ tallies_cong _ no_tallies _ c.args.k (λ i l. ap (λ x. met (rect i) x k.j (tally_of boxes k.j (rect i))) e.ensures ∙ tally_step boxes (rect i) k.j),
       every_more _ k.j k.invariant.1
-          (tested ∙ not-false _ (ap not c.if-not-valid.false)),
+          (tested ∙ c.if-not-valid.false),
       omega arith,
     )
 

@@ -1,2 +1,0 @@
--- Lemmas that several proofs of `vectors` cite.
-mod Lines
