@@ -21,6 +21,7 @@ use Rattle.fit.specs.declared.Grade.TheVariants.{Score, Outside, TooFew}
 use Rattle.fit.specs.Grid.{across, down, tap_outside, Walk, Going, Ended, tap_step, cell_step, row_step, walked, fisher, grade_from, grade_of}
 use Rattle.fit.specs.Promises.{sampled_cells}
 use Rattle.fit.specs.First.{Sampled, HasTapOutside, FirstOutside, OutsideIs, OneFirst, NumberTells, SomeOutside, NoneOutside}
+use Rattle.fit.proofs.CellNumber.{number_of}
 use Rattle.fit.proofs.Walks.{tap_in, tap_out, cell_stays, row_stays, grade_out, grade_in_lem}
 
 going_not_ended : {cell : ℕ} → Going ≡ Ended cell → ⊥
@@ -98,9 +99,6 @@ module _ (img : Image) (f : FrameSpec) (fit : GeometryFit) where
   abbrev Off : ℕ → ℕ → Type 0
   Off x y = HasTapOutside img f fit (3 * x) (3 * y)
 
-  abbrev number_of : ℕ → ℕ → ℕ
-  number_of x y = 3 * y * cols f + 3 * x
-
   off_at : {column row : ℕ} → Sampled f column row → HasTapOutside img f fit column row → Off (column / 3) (row / 3)
   off_at {column} {row} s o =
       subst (λ r. HasTapOutside img f fit (3 * (column / 3)) r) (sym (row_is f s)) (subst (λ c. HasTapOutside img f fit c row) (sym (column_is f s)) o)
@@ -131,24 +129,24 @@ module _ (img : Image) (f : FrameSpec) (fit : GeometryFit) where
       (either (tap_outside img f fit (3 * x) (3 * y) o.tap))
 
   -- a tap that ends the walk is outside, and ends it with its cell's number
-  tap_ends : (x y i cell : ℕ) → i < 9 → tap_step img f fit y x i Going ≡ Ended cell → Off x y × (Ended cell ≡ Ended (number_of x y))
+  tap_ends : (x y i cell : ℕ) → i < 9 → tap_step img f fit y x i Going ≡ Ended cell → Off x y × (Ended cell ≡ Ended (number_of f x y))
   tap_ends x y i cell h e =
       ⊎_elim
       (λ t. (record { tap = i; nine = h; outside = holds t }, sym e ∙ tap_out img f fit y x i t))
       (λ d. absurd (going_not_ended (tap_in img f fit y x i d ∙ e)))
       (either (tap_outside img f fit (3 * x) (3 * y) i))
 
-  cell_ended : (x y cell : ℕ) → cell_step img f fit y x Going ≡ Ended cell → Off x y × (Ended cell ≡ Ended (number_of x y))
+  cell_ended : (x y cell : ℕ) → cell_step img f fit y x Going ≡ Ended cell → Off x y × (Ended cell ≡ Ended (number_of f x y))
   cell_ended x y cell w = by_steps (cell_steps x y)
     where
-      by_steps : Steps (tap_step img f fit y x) (tap_stays y x) 9 (cell_step img f fit y x Going) → Off x y × (Ended cell ≡ Ended (number_of x y))
+      by_steps : Steps (tap_step img f fit y x) (tap_stays y x) 9 (cell_step img f fit y x Going) → Off x y × (Ended cell ≡ Ended (number_of f x y))
       by_steps (goes e each) = absurd (going_not_ended (sym e ∙ w))
       by_steps (ends c i e h at before) = tap_ends x y i cell h (at ∙ sym e ∙ w)
 
-  cell_ends : (x y : ℕ) → Off x y → cell_step img f fit y x Going ≡ Ended (number_of x y)
+  cell_ends : (x y : ℕ) → Off x y → cell_step img f fit y x Going ≡ Ended (number_of f x y)
   cell_ends x y o = by_steps (cell_steps x y)
     where
-      by_steps : Steps (tap_step img f fit y x) (tap_stays y x) 9 (cell_step img f fit y x Going) → cell_step img f fit y x Going ≡ Ended (number_of x y)
+      by_steps : Steps (tap_step img f fit y x) (tap_stays y x) 9 (cell_step img f fit y x Going) → cell_step img f fit y x Going ≡ Ended (number_of f x y)
       by_steps (goes e each) = absurd (cell_went x y e o)
       by_steps (ends c i e h at before) = e ∙ (tap_ends x y i c h at).1
 
@@ -227,12 +225,12 @@ module _ (img : Image) (f : FrameSpec) (fit : GeometryFit) where
       let s = o.sampled in
       let x = o.column / 3 in
       let y = o.row / 3 in
-      let at : row_step img f fit y Going ≡ Ended (number_of x y) =
-      row_ends x y (number_of x y) (column_across f s) (cell_ends x y (off_at s o.outside))
+      let at : row_step img f fit y Going ≡ Ended (number_of f x y) =
+      row_ends x y (number_of f x y) (column_across f s) (cell_ends x y (off_at s o.outside))
       (λ j l. o.none_earlier (3 * j) (3 * y) (sampled_at f j y (omega (arith, column_across f s)) (row_down f s))
       (inr (row_is f s, omega (arith, column_is f s)))) in
-      let whole : walked img f fit ≡ Ended (number_of x y) =
-      walk_ends y (number_of x y) (row_down f s) at
+      let whole : walked img f fit ≡ Ended (number_of f x y) =
+      walk_ends y (number_of f x y) (row_down f s) at
       (λ i j h l. o.none_earlier (3 * i) (3 * j) (sampled_at f i j h (omega (arith, row_down f s))) (inl (omega (arith, row_is f s)))) in
       whole ∙ ap Ended (ap (λ r. r * cols f + 3 * x) (row_is f s) ∙ ap (λ c. o.row * cols f + c) (column_is f s) ∙ sym o.number)
 

@@ -1,5 +1,6 @@
 -- Laws of the definitions.
 pub mod Cases
+mod CellNumber
 pub mod First
 pub mod Taps
 mod Walks

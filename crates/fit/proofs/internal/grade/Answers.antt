@@ -3,7 +3,7 @@ use Rattle.fit.proofs.Walks.{walk_of, tap_in, leaves, grade_out, grade_in_lem, S
 use Rattle.fit.proofs.Walks.{tap_is, cell_mean_is, cell_variance_is, mean_in, nine}
 use Rattle.fit.specs.declared.Grade.TheVariants.{Score}
 use Rattle.fit.specs.Promises.{sampled_cells}
-use Rattle.fit.specs.Grid.{tap_outside, cell_tap, cell_mean, cell_variance, cell_step, row_step, walked, Ended, fisher, fisher_of}
+use Rattle.fit.specs.Grid.{tap_outside, cell_tap, cell_mean, cell_variance, cell_step, row_step, walked, Going, Ended, fisher, fisher_of}
 use Rattle.fit.specs.Grid as G
 use Rattle.frame.specs.Image.{image}
 use Rattle.float.specs.Floats.{sum_of}
@@ -19,7 +19,7 @@ use mathlib.Core.Bool.{true, false, false≢true}
 use Rattle.frame.specs.Frame.{cols}
 use borrow.Author.Rules.{rules}
 use native.Mathlib.Omega.{arith}
-use Prim.Native.Nat.{◌≤◌, ◌<◌, ◌+◌, ◌*◌, ◌-◌}
+use Prim.Native.Nat.{◌≤◌, ◌<◌, ◌+◌, ◌*◌}
 use mathlib.Core.Path.{◌≡◌, refl, sym, ap, ◌∙◌}
 use Rattle.fit.proofs.internal.grade.Goals.{else-rows-test, then-rows-test+then-cols-test+then-taps-test+then-tap_outside}
 use Rattle.fit.proofs.internal.grade.Goals as goal
@@ -192,21 +192,14 @@ returns-then-n-lt16 c =
     let a = c.args in
     let l = c.rows in
     let img = image a.w a.h a.capture.now in
-    let left_walk : walk_of c.rows-test.found c.rows-test.cell ≡ walked img a.frame a.fit =
-    elim c.rows-test.branch [
-      | else-rows-test w ↦ sym (pick_no _ _ _ (w.found-is ∙ l.invariant.0)) ∙ turns_end _ _ _ _ l.invariant.1 (omega arith)
-      | then-rows-test+then-cols-test+then-taps-test+then-tap_outside w ↦
-          let x = w.cols.x in
-          let y = l.y in
-          let out : tap_outside img a.frame a.fit (3 * x) (3 * y) w.taps.i ≡ true =
-          sym (tap_outside_is img a.frame a.fit (3 * x) (3 * y) w.taps.i w.tap_place-p.ensures w.tap_outside.ensures) ∙ w.if-tap_outside.true in
-          let cell : c.rows-test.cell ≡ 3 * y * cols a.frame + 3 * x = w.cell-is ∙ ap (λ n. 3 * y * n + 3 * x) c.cols-cols.ensures in
-          sym (pick_yes _ _ _ w.found-is) ∙ ap Ended cell
-          ∙ sym (leaves img a.frame a.fit y x w.taps.i l.invariant.1 w.cols.invariant.1 w.taps.invariant.1 out (omega arith) (omega arith) (omega arith))
-    ] in
     let f = c.if-found.false in
+    let left_walk : Going ≡ walked img a.frame a.fit =
+    elim c.rows-test.branch [
+      | else-rows-test w ↦ turns_end _ _ _ _ l.invariant.1 (omega arith)
+      | then-rows-test+then-cols-test+then-taps-test+then-tap_outside w ↦ absurd (false≢true (sym f ∙ w.found-is))
+    ] in
     let m = left_sums f in
-    grade_in_lem _ _ _ (pick_no _ _ _ f ∙ left_walk) m.count (pick_yes _ _ _ (lt-ltb _ _ c.if-n-lt16.true))
+    grade_in_lem _ _ _ left_walk m.count (pick_yes _ _ _ (lt-ltb _ _ c.if-n-lt16.true))
 
 pub fisher-score-requires : goal.fisher-score-requires
 unfolding sampled_cells
@@ -257,24 +250,16 @@ returns c =
     let a = c.args in
     let l = c.rows in
     let img = image a.w a.h a.capture.now in
-    let left_walk : walk_of c.rows-test.found c.rows-test.cell ≡ walked img a.frame a.fit =
-    elim c.rows-test.branch [
-      | else-rows-test w ↦ sym (pick_no _ _ _ (w.found-is ∙ l.invariant.0)) ∙ turns_end _ _ _ _ l.invariant.1 (omega arith)
-      | then-rows-test+then-cols-test+then-taps-test+then-tap_outside w ↦
-          let x = w.cols.x in
-          let y = l.y in
-          let out : tap_outside img a.frame a.fit (3 * x) (3 * y) w.taps.i ≡ true =
-          sym (tap_outside_is img a.frame a.fit (3 * x) (3 * y) w.taps.i w.tap_place-p.ensures w.tap_outside.ensures) ∙ w.if-tap_outside.true in
-          let cell : c.rows-test.cell ≡ 3 * y * cols a.frame + 3 * x = w.cell-is ∙ ap (λ n. 3 * y * n + 3 * x) c.cols-cols.ensures in
-          sym (pick_yes _ _ _ w.found-is) ∙ ap Ended cell
-          ∙ sym (leaves img a.frame a.fit y x w.taps.i l.invariant.1 w.cols.invariant.1 w.taps.invariant.1 out (omega arith) (omega arith) (omega arith))
-    ] in
-    let a = c.args in
     let f = c.if-found.false in
+    let left_walk : Going ≡ walked img a.frame a.fit =
+    elim c.rows-test.branch [
+      | else-rows-test w ↦ turns_end _ _ _ _ l.invariant.1 (omega arith)
+      | then-rows-test+then-cols-test+then-taps-test+then-tap_outside w ↦ absurd (false≢true (sym f ∙ w.found-is))
+    ] in
     let m = left_sums f in
     let h : c.rows-test.n ≤ length a.means.now = omega (arith, m.count, c.requires.2) in
     let v = by_row (G.across a.frame) (cell_mean (image a.w a.h a.capture.now) a.frame a.fit) in
     let s : c.fisher-score.result ≡ fisher_of v c.rows-test.within c.rows-test.n =
     c.fisher-score.ensures ∙ fisher_filled v c.rows-test.n c.rows-test.means a.means.now m.means h c.rows-test.within in
-    grade_in_lem _ _ _ (pick_no _ _ _ f ∙ left_walk) m.count
+    grade_in_lem _ _ _ left_walk m.count
     (ap Score (s ∙ ap (λ (z : Float). fisher_of v z c.rows-test.n) m.within) ∙ pick_no _ _ _ (le-ltb _ _ c.if-n-lt16.false))
