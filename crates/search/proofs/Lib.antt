@@ -1,6 +1,7 @@
 -- Laws of the definitions.
 pub mod Entries
 pub mod Terms
+mod OneMore
 pub mod Kept
 pub mod Counts
 mod Cases
