@@ -20,7 +20,8 @@ use Rattle.blobs.proofs.Sums.{total_set, total_most, total_less, at_set, flags_s
 use Rattle.blobs.proofs.Grid.{dark_inside}
 use Rattle.blobs.proofs.Sides.{sides_most}
 use Rattle.blobs.proofs.Joins.{joined_dark, closed_all, closed_back}
-use Rattle.blobs.proofs.Steps.{Waits, newest, older, Reach, reach_spread, spread_marks}
+use Rattle.blobs.proofs.Steps.{Waits, newest, older, Reach}
+use Rattle.blobs.proofs.Spread.{reach_spread, spread_marks}
 
 -- each dark pixel around q is marked
 abbrev pub Around : List ℕ → ℕ → List ℕ → ℕ → Type 0

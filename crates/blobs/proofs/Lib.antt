@@ -2,8 +2,10 @@
 pub mod Sums
 pub mod Grid
 pub mod Steps
+pub mod Spread
 pub mod Joins
 pub mod Marks
+pub mod Faces
 pub mod Sides
 pub mod Floods
 pub mod Pairs
@@ -15,5 +17,6 @@ pub mod Moments
 pub mod Whole
 pub mod Unique
 pub mod Counts
+pub mod Classes
 pub mod Masks
 pub mod Refused

@@ -4,20 +4,21 @@ use native.Mathlib.Nat.{mod-lt, mod-le, mul-one}
 use native.Mathlib.Decide.{dec_lt, ℕ_discrete}
 use native.Mathlib.Omega.{arith}
 use mathlib.Core.Path.{◌≡◌, refl, sym, ap, subst, ◌∙◌}
-use mathlib.Core.Bool.{Bool, true, false, cond, true≢false}
+use mathlib.Core.Bool.{Bool, true, cond, true≢false}
 use mathlib.Core.List.{List}
 use mathlib.Core.Logic.{◌⊎◌, inl, inr, ⊎_elim}
 use lib.Dec.{leb, ltb, eqb}
 use lib.ListN.{length, get_or}
-use borrow.Author.Tests.{lt-ltb, le-leb, ltb-true, leb-true, eqb-true, eqb-false, eq-eqb, ne_eqb}
+use borrow.Author.Tests.{ltb-true, leb-true, eqb-true, eqb-false, eq-eqb, ne_eqb}
 use Rattle.base.proofs.Pick.{pick_yes, pick_no, cond_elim}
 use Rattle.blobs.specs.Patches.{Dark, Touch, total, Marks, one, light, side, sides}
 use Rattle.blobs.specs.Patches.Touch.{right, left, under, over}
 use Rattle.blobs.specs.Patches.Joined.{step}
 use Rattle.blobs.specs.Sides.{SidesByTouch, SidesOfPatch}
 use Rattle.blobs.proofs.Sums.{total_same, total_add}
-use Rattle.blobs.proofs.Grid.{left_of, right_of, dark_inside}
+use Rattle.blobs.proofs.Grid.{left_of, dark_inside}
 use Rattle.blobs.proofs.Joins.{joined_dark}
+use Rattle.blobs.proofs.Faces.{Faced, L, R, U, D, faces}
 use Rattle.blobs.proofs.Marks.{marks_same, marks_as, marks_either}
 
 pub side_most : (m : List ℕ) (there : Bool) (q : ℕ) → side m there q ≤ 1
@@ -30,11 +31,7 @@ sides_most m w p = omega (arith, side_most m (ltb 0 (p % w)) (p - 1), side_most 
 
 -- ---- one side, which faces the pixel r, if there is one
 
--- q is that pixel, and dark
-abbrev Faced : List ℕ → Bool → ℕ → ℕ → Type 0
-Faced m there r q = (q ≡ r) × (there ≡ true) × Dark m q
-
--- .. and counted
+-- q is that pixel, dark, and counted
 unfoldable faced : List ℕ → Bool → ℕ → ℕ → ℕ
 faced m there r q = cond (eqb q r) (1 - side m there r) 0
 
@@ -91,45 +88,26 @@ module _ (m : List ℕ) (there : Bool) (r : ℕ) where
 
 -- ---- the four sides of p: left, right, upper, lower
 module _ (m : List ℕ) (w p : ℕ) (wide : 0 < w) where
-  abbrev L : ℕ → Type 0
-  L = Faced m (ltb 0 (p % w)) (p - 1)
-
-  abbrev R : ℕ → Type 0
-  R = Faced m (ltb (p % w + 1) w) (p + 1)
-
-  abbrev U : ℕ → Type 0
-  U = Faced m (leb w p) (p - w)
-
-  abbrev D : ℕ → Type 0
-  D = Faced m (ltb (p + w) (length m)) (p + w)
-
   -- no pixel is on two of them
-  left_right : (q : ℕ) → L q → R q → ⊥
+  left_right : (q : ℕ) → L m w p q → R m w p q → ⊥
   left_right q a b = omega (arith, a.0, b.0)
 
-  left_up : (q : ℕ) → L q → U q → ⊥
+  left_up : (q : ℕ) → L m w p q → U m w p q → ⊥
   left_up q a b = omega (arith, a.0, b.0, ltb-true 0 (p % w) a.1, leb-true w p b.1, mod-lt p wide, mod-le p w)
 
-  right_up : (q : ℕ) → R q → U q → ⊥
+  right_up : (q : ℕ) → R m w p q → U m w p q → ⊥
   right_up q a b = omega (arith, a.0, b.0)
 
-  left_down : (q : ℕ) → L q → D q → ⊥
+  left_down : (q : ℕ) → L m w p q → D m w p q → ⊥
   left_down q a b = omega (arith, a.0, b.0)
 
-  right_down : (q : ℕ) → R q → D q → ⊥
+  right_down : (q : ℕ) → R m w p q → D m w p q → ⊥
   right_down q a b = omega (arith, a.0, b.0, ltb-true (p % w + 1) w a.1)
 
-  up_down : (q : ℕ) → U q → D q → ⊥
+  up_down : (q : ℕ) → U m w p q → D m w p q → ⊥
   up_down q a b = omega (arith, a.0, b.0)
 
-  -- what they face are the dark pixels that share an edge with p
-  faces : (q : ℕ) → Touch w p q → Dark m q → ((L q ⊎ R q) ⊎ U q) ⊎ D q
-  faces q (left e l) d = inl (inl (inl (omega arith, lt-ltb 0 (p % w) (right_of p q w e l), d)))
-  faces q (right e l) d = inl (inl (inr (e, lt-ltb (p % w + 1) w l, d)))
-  faces q (over e) d = inl (inr (omega arith, le-leb w p (omega arith), d))
-  faces q (under e) d = inr (e, lt-ltb (p + w) (length m) (omega (arith, dark_inside m q d)), d)
-
-  touches : (q : ℕ) → ((L q ⊎ R q) ⊎ U q) ⊎ D q → Touch w p q × Dark m q
+  touches : (q : ℕ) → ((L m w p q ⊎ R m w p q) ⊎ U m w p q) ⊎ D m w p q → Touch w p q × Dark m q
   touches q (inl (inl (inl a))) =
       let e : p ≡ q + 1 = omega (arith, a.0, ltb-true 0 (p % w) a.1, mod-le p w) in
       (left e (left_of p q w wide e (ltb-true 0 (p % w) a.1)), a.2)
@@ -151,7 +129,7 @@ module _ (m : List ℕ) (w p : ℕ) (wide : 0 < w) where
 
   marks_four : Marks (λ q. l q + r q + u q + d q) (λ q. Touch w p q × Dark m q)
   marks_four =
-      marks_as touches (λ q x. faces q x.0 x.1)
+      marks_as touches (λ q x. faces m w p q x.0 x.1)
       (marks_either (λ q a b. ⊎_elim (λ x. ⊎_elim (λ y. left_down q y b) (λ y. right_down q y b) x) (λ x. up_down q x b) a)
       (marks_either (λ q a b. ⊎_elim (λ x. left_up q x b) (λ x. right_up q x b) a)
       (marks_either left_right (faced_marks m (ltb 0 (p % w)) (p - 1)) (faced_marks m (ltb (p % w + 1) w) (p + 1)))

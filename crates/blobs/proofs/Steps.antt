@@ -1,4 +1,4 @@
--- What a visit to one pixel, and to the four neighbours of one, does to marks and waiting pixels. Assumes nothing.
+-- What a visit to one pixel, and to each of the four neighbours of one, does to marks and waiting pixels. Assumes nothing.
 use Prim.Native.Nat.{ℕ, ◌+◌, ◌-◌, ◌%◌, ◌≤◌, ◌<◌}
 use native.Mathlib.Nat.{mod-le}
 use native.Mathlib.Omega.{arith}
@@ -13,7 +13,7 @@ use borrow.Author.Tests.{eqb-true, eqb-false, ltb-true, leb-true, lt-ltb, le-leb
 use Rattle.base.proofs.Pick.{cond_elim}
 use Rattle.blobs.specs.Patches.{Dark, Touch, total, one}
 use Rattle.blobs.specs.Patches.Touch.{right, left, under, over}
-use Rattle.blobs.specs.Stack.{Marking, marking, visit, visit_left, visit_right, visit_up, visit_down, spread}
+use Rattle.blobs.specs.Stack.{Marking, marking, visit, visit_left, visit_right, visit_up, visit_down}
 use Rattle.blobs.specs.Ready.{at, Held, Pixel}
 use Rattle.blobs.proofs.Sums.{total_set, at_set, flags_set, unseen_fewer, summed}
 use Rattle.blobs.proofs.Grid.{left_of, right_of, in_row, dark_inside}
@@ -80,7 +80,7 @@ reach_wide w r =
       even = r.even;
     }
 
-reach_then : {m : List ℕ} {Q : ℕ → Type 0} {a b c : Marking} → Reach m Q a b → Reach m Q b c → Reach m Q a c
+pub reach_then : {m : List ℕ} {Q : ℕ → Type 0} {a b c : Marking} → Reach m Q a b → Reach m Q b c → Reach m Q a c
 reach_then r s =
     record {
       held = s.held;
@@ -138,60 +138,26 @@ module _ {m : List ℕ} {w p : ℕ} (a : Marking) (x : Pixel m w p) (h : Held m 
   unfolding visit_down
   reach_down = reach_if (Touch w p) (ltb (p + w) (length m)) a (p + w) h (λ e. (ltb-true (p + w) (length m) e, under refl))
 
-  left_marks : (q : ℕ) → p ≡ q + 1 → q % w + 1 < w → Dark m q → at (visit_left m w p a).seen q ≡ 1
+  pub left_marks : (q : ℕ) → p ≡ q + 1 → q % w + 1 < w → Dark m q → at (visit_left m w p a).seen q ≡ 1
   unfolding visit_left
   left_marks q e l d =
       let g : p - 1 ≡ q = omega arith in
       subst (λ (z : ℕ). Dark m z → at (cond (ltb 0 (p % w)) (visit m (p - 1) a) a).seen z ≡ 1) g (λ b. if_marks (ltb 0 (p % w)) a (p - 1) (lt-ltb 0 (p % w) (right_of p q w e l)) h b) d
 
-  right_marks : (q : ℕ) → q ≡ p + 1 → p % w + 1 < w → Dark m q → at (visit_right m w p a).seen q ≡ 1
+  pub right_marks : (q : ℕ) → q ≡ p + 1 → p % w + 1 < w → Dark m q → at (visit_right m w p a).seen q ≡ 1
   unfolding visit_right
   right_marks q e l d = subst (λ (z : ℕ). Dark m z → at (cond (ltb (p % w + 1) w) (visit m (p + 1) a) a).seen z
       ≡ 1) (sym e) (λ b. if_marks (ltb (p % w + 1) w) a (p + 1) (lt-ltb (p % w + 1) w l) h b) d
 
-  up_marks : (q : ℕ) → p ≡ q + w → Dark m q → at (visit_up m w p a).seen q ≡ 1
+  pub up_marks : (q : ℕ) → p ≡ q + w → Dark m q → at (visit_up m w p a).seen q ≡ 1
   unfolding visit_up
   up_marks q e d =
       let g : p - w ≡ q = omega arith in
       subst (λ (z : ℕ). Dark m z → at (cond (leb w p) (visit m (p - w) a) a).seen z ≡ 1) g (λ b. if_marks (leb w p) a (p - w) (le-leb w p (omega arith)) h b) d
 
-  down_marks : (q : ℕ) → q ≡ p + w → Dark m q → at (visit_down m w p a).seen q ≡ 1
+  pub down_marks : (q : ℕ) → q ≡ p + w → Dark m q → at (visit_down m w p a).seen q ≡ 1
   unfolding visit_down
   down_marks q e d =
       let l : p + w < length m = omega (arith, dark_inside m q d) in
       subst (λ (z : ℕ). Dark m z → at (cond (ltb (p + w) (length m)) (visit m (p + w) a) a).seen z
       ≡ 1) (sym e) (λ b. if_marks (ltb (p + w) (length m)) a (p + w) (lt-ltb (p + w) (length m) l) h b) d
-
-module _ {m : List ℕ} {w p : ℕ} (a : Marking) (x : Pixel m w p) (h : Held m a) where
-  abbrev a₁ : Marking
-  a₁ = visit_left m w p a
-
-  abbrev a₂ : Marking
-  a₂ = visit_right m w p a₁
-
-  abbrev a₃ : Marking
-  a₃ = visit_up m w p a₂
-
-  r₁ : Reach m (Touch w p) a a₁
-  r₁ = reach_left a x h
-
-  r₂ : Reach m (Touch w p) a₁ a₂
-  r₂ = reach_right a₁ x r₁.held
-
-  r₃ : Reach m (Touch w p) a₂ a₃
-  r₃ = reach_up a₂ x r₂.held
-
-  r₄ : Reach m (Touch w p) a₃ (visit_down m w p a₃)
-  r₄ = reach_down a₃ x r₃.held
-
-  pub reach_spread : Reach m (Touch w p) a (spread m w p a)
-  unfolding spread
-  reach_spread = reach_then (reach_then (reach_then r₁ r₂) r₃) r₄
-
-  -- all dark neighbours are marked
-  pub spread_marks : (q : ℕ) → Touch w p q → Dark m q → at (spread m w p a).seen q ≡ 1
-  unfolding spread
-  spread_marks q (left e l) d = r₄.keeps q (r₃.keeps q (r₂.keeps q (left_marks a x h q e l d)))
-  spread_marks q (right e l) d = r₄.keeps q (r₃.keeps q (right_marks a₁ x r₁.held q e l d))
-  spread_marks q (over e) d = r₄.keeps q (up_marks a₂ x r₂.held q e d)
-  spread_marks q (under e) d = down_marks a₃ x r₃.held q e d

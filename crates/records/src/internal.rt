@@ -1,5 +1,4 @@
-// Store and fetch of one record in a lent slice of records. The borrow checker covers no function
-// over such a slice, so each is thin, and proved by a walk.
+// Store and fetch of one record in a lent slice of records.
 ghost use Rattle.std.specs.Prelude.{◌≡◌, ◌+◌, ◌*◌, ◌≤◌, ◌<◌, length, set};
 ghost use Rattle.blobs.specs.Patches.{record_length, patch_at};
 ghost use Rattle.candidates.specs.Ring.{candidate_at};

@@ -56,7 +56,6 @@ fn main(rt: HostRuntime) -> io::Result<()> {
     patch_windows(&mut console, 3, 2, 29);
     patch_windows(&mut console, 3, 3, 29);
     patch_windows(&mut console, 3, 2, 4096);
-    merge_books(&mut console, &book);
     console.finish()
 }
 
@@ -327,42 +326,4 @@ fn patch_windows(console: &mut Console, n: usize, k: usize, last: u64) {
         tablet::tablet_patch_windows(&patches, n, &windows, k, &mut answers) as u64,
     );
     words(console, &answers, 0, 7);
-}
-
-// ---- two books
-
-// The book of one record and one of the same panel's next camera; with itself in a target that is
-// short; and with another fit under its key. Which book is first shows only where both are
-// refused, here by 15 for two records that are the same and by 14 for a grade.
-fn merge_books(console: &mut Console, book: &[u8; 136]) {
-    let mut next = *book;
-    next[20] = 4;
-    joined(console, book, &next);
-    let mut short = [9u8; 128];
-    word(
-        console,
-        tablet::tablet_merge_books(book, book, &mut short) as u64,
-    );
-    all_bytes(console, &short);
-    let mut other = *book;
-    other[135] = 0xc8;
-    joined(console, book, &other);
-    let mut twice = [0u8; 256];
-    twice[0] = 2;
-    twice[4] = 16;
-    twice[8] = 120;
-    twice[13] = 1;
-    let mut graded = *book;
-    graded[24] = 3;
-    joined(console, &twice, &graded);
-}
-
-// In a target that is longer than two records need.
-fn joined(console: &mut Console, first: &[u8], second: &[u8]) {
-    let mut target = [9u8; 264];
-    word(
-        console,
-        tablet::tablet_merge_books(first, second, &mut target) as u64,
-    );
-    all_bytes(console, &target);
 }

@@ -22,7 +22,7 @@ pub fn px<'a>(v: RgbImage<'a>, x: usize, y: usize) -> Rgb
     frame::internal::px(v.data, v.w, v.h, x, y)
 }
 
-// A picture read by name: the same with plain parameters, so that whoever calls it needs no walk.
+// A picture read by name: the same with plain parameters.
 pub fn read(data: &[u8], w: usize, h: usize, x: usize, y: usize) -> Rgb
     requires { CaptureHeld (image w h «data».now) × (x < w) × (y < h) }
     ensures { result ≡ px (image w h «data».now) x y }

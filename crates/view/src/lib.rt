@@ -1,5 +1,5 @@
-// The read-only view of a picture: w, h and the lent bytes. Each function over it is proved by a
-// walk; the functions, like `px` itself, serve inside only.
+// The read-only view of a picture: w, h and the lent bytes. The functions over it, like `px` itself,
+// serve inside only.
 #![tactic(auto)]
 
 pub mod internal; // internal.rt: making a view and reading through it

@@ -1,12 +1,12 @@
 -- The answer for a rectangle: the equation gives it by meaning, there is one only, and the walk's tally is its numbers. Assumes nothing.
-use Prim.Native.Nat.{ℕ, zero, suc, ◌^◌, ◌≤◌, ◌<◌}
+use Prim.Native.Nat.{ℕ, zero, suc, ◌^◌, ◌<◌}
 use native.Mathlib.Nat.{mul-one}
 use native.Mathlib.Omega.{arith}
 use mathlib.Core.Path.{◌≡◌, refl, sym, ap, subst, ◌∙◌}
 use mathlib.Core.Bool.{Bool, true, false, cond, ◌&&◌, true≢false}
 use mathlib.Core.Logic.{◌⊎◌, inl, inr, ⊎_elim}
-use lib.Dec.{eqb, ltb}
-use borrow.Author.Tests.{eq-eqb, ne_eqb, lt-ltb, ltb-true, ltb-false}
+use lib.Dec.{eqb}
+use borrow.Author.Tests.{eq-eqb, ne_eqb}
 use Rattle.base.specs.Loops.{turns}
 use Rattle.base.proofs.Arith.{le_or_lt, last_or}
 use Rattle.base.proofs.Pick.{pick_yes, pick_no, cond_elim}
@@ -14,7 +14,7 @@ use Rattle.base.proofs.Tests.{either, not_second}
 use Rattle.blobs.specs.Patches.{total, one}
 use Rattle.blobs.proofs.Sums.{total_same}
 use Rattle.windows.specs.Rectangles.{Valid, Shares, touches, distance}
-use Rattle.windows.specs.Windows.{HowMany, FirstWith, LeastOf, WindowOf, first_met, nearest_met, window_step, no_window, window_of}
+use Rattle.windows.specs.Windows.{HowMany, FirstWith, LeastOf, WindowOf, first_met, window_step, no_window, window_of}
 use Rattle.windows.specs.Windows.{no_patch, patch_number, patch_of}
 use Rattle.windows.specs.Steps.{met, farthest, tally_of}
 use Rattle.windows.specs.declared.Rectangle.{Rectangle}
@@ -24,11 +24,13 @@ use Rattle.windows.specs.declared.Window.{Window}
 use Rattle.windows.specs.declared.tally.Tally.{Tally}
 use Rattle.windows.proofs.Touching.{touches_shares, shares_touches, distance_most}
 use Rattle.windows.proofs.Tallies.{tally_same}
+use Rattle.windows.proofs.Nearest.{nearest_more}
+use Rattle.windows.proofs.Least.{least_number, near_number}
 
 pub window_same : {a b : Window} → a.count ≡ b.count → a.first ≡ b.first → a.nearest ≡ b.nearest → a ≡ b
 window_same p q r = λ z. record { count = p z; first = q z; nearest = r z }
 
--- ---- the first and the nearest, with one patch more
+-- ---- the first, with one patch more
 
 first_more : (t : ℕ → Rectangle) (r : Rectangle) (P : ℕ → Type 0) (n : ℕ) → (touches r (t n) ≡ true → P n) → (touches r (t n) ≡ false → P n → ⊥)
     → (p : Patch) → FirstWith P n p → FirstWith P (suc n) (first_met t r n p)
@@ -38,30 +40,6 @@ first_more t r P n f g Nothing h =
     cond_elim (FirstWith P (suc n)) (touches r (t n)) (At n) Nothing
     (λ e. (omega arith, f e, h))
     (λ e j l. ⊎_elim (λ q. subst (λ i. P i → ⊥) (sym q) (g e)) (λ b. h j b) (last_or j n l))
-
-nearest_more : (t : ℕ → Rectangle) (r : Rectangle) (n : ℕ) (p : Patch)
-    → LeastOf (λ j. distance r (t j)) n p → LeastOf (λ j. distance r (t j)) (suc n) (nearest_met t r n p)
-unfolding nearest_met
-nearest_more t r n Nothing h = (
-  omega arith,
-  λ i l. let e : i ≡ n = omega arith in omega (arith, ap (λ x. distance r (t x)) e),
-  λ i l. absurd (omega arith),
-)
-nearest_more t r n (At j) h =
-    cond_elim (LeastOf d (suc n)) (ltb (d n) (d j)) (At n) (At j)
-    (λ e. let b : d n < d j = ltb-true _ _ e in (
-      omega arith,
-      λ i l. ⊎_elim (λ q. omega (arith, ap d q)) (λ q. omega (arith, h.1 i q)) (last_or i n l),
-      λ i l. omega (arith, h.1 i l),
-    ))
-    (λ e. let b : d j ≤ d n = ltb-false _ _ e in (
-      omega (arith, h.0),
-      λ i l. ⊎_elim (λ q. omega (arith, ap d q)) (λ q. h.1 i q) (last_or i n l),
-      h.2,
-    ))
-  where
-    d : ℕ → ℕ
-    d i = distance r (t i)
 
 -- ---- the equation, patch by patch
 module _ (t : ℕ → Rectangle) (r : Rectangle) where
@@ -173,13 +151,8 @@ named n (At j) f h = sym (pick_no _ Nothing (At j) (place_number n j f h))
 -- ---- the tally is the answer in numbers
 
 module _ (t : ℕ → Rectangle) (r : Rectangle) where
-  -- the distance of the nearest
-  unfoldable pub least_number : Patch → ℕ
-  least_number Nothing = farthest
-  least_number (At j) = distance r (t j)
-
   abbrev pub tallied : Window → Tally
-  tallied a = record { count = a.count; first = patch_number a.first; nearest = patch_number a.nearest; least = least_number a.nearest }
+  tallied a = record { count = a.count; first = patch_number a.first; nearest = patch_number a.nearest; least = least_number t r a.nearest }
 
   first_number : (n : ℕ) (p : Patch) → n < 2 ^ 64 → Before n p
       → cond (touches r (t n) && eqb (patch_number p) no_patch) n (patch_number p) ≡ patch_number (first_met t r n p)
@@ -191,19 +164,6 @@ module _ (t : ℕ → Rectangle) (r : Rectangle) where
       by_test true = sym (pick_yes _ n no_patch (eq-eqb no_patch no_patch refl))
       by_test false = refl
 
-  near_number : (n : ℕ) (p : Patch) → distance r (t n) < farthest
-      → (cond (ltb (distance r (t n)) (least_number p)) n (patch_number p) ≡ patch_number (nearest_met t r n p))
-      × (cond (ltb (distance r (t n)) (least_number p)) (distance r (t n)) (least_number p) ≡ least_number (nearest_met t r n p))
-  unfolding nearest_met patch_number least_number
-  near_number n Nothing h =
-      let e = lt-ltb (distance r (t n)) farthest h in
-      (sym (pick_yes _ n no_patch e), sym (pick_yes _ (distance r (t n)) farthest e))
-  near_number n (At i) h = by_test (ltb (distance r (t n)) (distance r (t i)))
-    where
-      by_test : (b : Bool) → (cond b n i ≡ patch_number (cond b (At n) (At i))) × (cond b (distance r (t n)) (distance r (t i)) ≡ least_number (cond b (At n) (At i)))
-      by_test true = (refl, refl)
-      by_test false = (refl, refl)
-
   module _ (s : Valid r) where
     pub tally_is : (n : ℕ) → n < 2 ^ 64 → ((j : ℕ) → j < n → Valid (t j)) → tally_of t n r ≡ tallied (window_of t n r)
     unfolding tally_of turns window_of least_number patch_number met
@@ -212,7 +172,7 @@ module _ (t : ℕ → Rectangle) (r : Rectangle) where
         let a = window_of t n r in
         let g : (j : ℕ) → j < n → Valid (t j) = λ j l. h j (omega arith) in
         let d : distance r (t n) < farthest = omega (arith, distance_most r (t n) s (h n (omega arith))) in
-        let b = near_number n a.nearest d in
+        let b = near_number t r n a.nearest d in
         let early = first_before (λ j. Shares r (t j)) n a.first (first_is t r s n g) in
         ap (met r (t n) n) (tally_is n (omega arith) g)
         ∙ tally_same {t = met r (t n) n (tallied a)} {u = tallied (window_step t r n a)} refl (first_number n a.first (omega arith) early) b.0 b.1

@@ -26,34 +26,6 @@ detect-f-requires c = ready _ _ _ (sym c.refused-number.ensures
 pub verdict_of-verdict-requires : goal.verdict_of-verdict-requires
 verdict_of-verdict-requires c = tt
 
--- where `detect` has returned
-abbrev after : goal.After-places-1 → goal.After-detect-f
-after c = c
-
-pub shape_of-luma : goal.shape_of-luma
-shape_of-luma c = (after c).detect.auto.1.1.1.1.0
-
-pub shape_of-integral : goal.shape_of-integral
-shape_of-integral c = (after c).detect.auto.1.1.1.1.1.0
-
-pub shape_of-mask : goal.shape_of-mask
-shape_of-mask c = (after c).detect.auto.1.1.1.1.1.1.0
-
-pub shape_of-seen : goal.shape_of-seen
-shape_of-seen c = (after c).detect.auto.1.1.1.1.1.1.1.0
-
-pub shape_of-waiting : goal.shape_of-waiting
-shape_of-waiting c = (after c).detect.auto.1.1.1.1.1.1.1.1.0
-
-pub shape_of-patches : goal.shape_of-patches
-shape_of-patches c = (after c).detect.auto.1.1.1.1.1.1.1.1.1.0
-
-pub shape_of-candidates : goal.shape_of-candidates
-shape_of-candidates c = (after c).detect.auto.1.1.1.1.1.1.1.1.1.1.0
-
-pub shape_of-blob_index : goal.shape_of-blob_index
-shape_of-blob_index c = (after c).detect.auto.1.1.1.1.1.1.1.1.1.1.1.0
-
 pub returns : goal.returns
 returns c =
-    detection_found _ _ _ _ _ _ _ _ _ _ _ (sym (after c).before.before.before.before.before.before.before.before.before.before.refused.ensures ∙ (after c).before.before.before.before.before.before.before.before.before.if1.false) (after c).detect.ensures c.verdict_of-verdict.ensures
+    detection_found _ _ _ _ _ _ _ _ _ _ _ (sym c.refused-number.ensures ∙ c.if-number-ne0.false) c.detect-f.ensures c.verdict_of-verdict.ensures

@@ -11,13 +11,13 @@ returns-then-number-ne0 c = rectify_refused _ _ _ _ _ c.refused-number.ensures c
 pub fit_picture-found-requires : goal.fit_picture-found-requires
 fit_picture-found-requires c =
     let a = c.args in
-    let p = passed _ _ (lent (areas a.luma.now a.integral.now a.mask.now a.seen.now a.waiting.now a.patches.now a.candidates.now a.blob-index.now) a.means.now a.canonical.now) (sym c.refused-number.ensures ∙ c.if-number-ne0.false) in
+    let p = passed _ _ (lent (areas a.luma.now a.integral.now a.mask.now a.seen.now a.waiting.now a.patches.now a.candidates.now a.blob_index.now) a.means.now a.canonical.now) (sym c.refused-number.ensures ∙ c.if-number-ne0.false) in
     (p.ready, p.means_room)
 
 pub lay-beyond-requires : goal.lay-beyond-requires
 lay-beyond-requires c =
     let a = c.args in
-    let p = passed _ _ (lent (areas a.luma.now a.integral.now a.mask.now a.seen.now a.waiting.now a.patches.now a.candidates.now a.blob-index.now) a.means.now a.canonical.now) (sym c.refused-number.ensures ∙ c.if-number-ne0.left) in
+    let p = passed _ _ (lent (areas a.luma.now a.integral.now a.mask.now a.seen.now a.waiting.now a.patches.now a.candidates.now a.blob_index.now) a.means.now a.canonical.now) (sym c.refused-number.ensures ∙ c.if-number-ne0.false) in
     (p.ready.capture, p.ready.frame, p.canonical_long)
 
 pub shape_of-luma : goal.shape_of-luma
@@ -53,6 +53,6 @@ shape_of-canonical c = c.lay-beyond.auto.canonical
 pub returns : goal.returns
 returns c =
     let a = c.args in
-    rectify_reported _ _ (lent (areas a.luma.now a.integral.now a.mask.now a.seen.now a.waiting.now a.patches.now a.candidates.now a.blob-index.now) a.means.now a.canonical.now) _ _ _ (sym c.refused-number.ensures ∙ c.if-number-ne0.left)
+    rectify_reported _ _ (lent (areas a.luma.now a.integral.now a.mask.now a.seen.now a.waiting.now a.patches.now a.candidates.now a.blob_index.now) a.means.now a.canonical.now) _ _ _ (sym c.refused-number.ensures ∙ c.if-number-ne0.false)
     c.fit_picture-found.ensures _ _ _ _ c.scored-report.ensures c.lay-beyond.ensures.1 c.answer-picture.ensures
     c.lay-beyond.ensures.0

@@ -1,5 +1,4 @@
 -- `merge::merge_books` meets its contract. Assumes nothing.
--- ---- a refusal, and an acceptance
 use borrow.Author.Tests.{ltb-false}
 use native.Mathlib.Omega.{arith}
 use mathlib.Core.Bool.{false, ◌||◌}
@@ -22,9 +21,10 @@ use Rattle.merge.proofs.Joining.{agreed, joined_is, joined_long}
 use Rattle.merge.proofs.Refusing.{both_give, short_gives, unjoined_gives, none_gives}
 use Rattle.merge.proofs.merge_books.Goals as goal
 
+-- ---- a refusal, and an acceptance
+
 refusal : (a b t : List ℕ) (n : ℕ) → n ≡ lowest_of (merge_tests a b t) → (n ≡ 0 → ⊥) → Merging a b t t (N.Refused n)
 refusal a b t n e h =
-    let accepted : Mergeable c.args.first.now c.args.second.now = c.refused-number.ensures.1 c.if-number-ne0.false in
     record {
       given = number_given _ _ n e h;
       accepted = λ z. absurd (h (e ∙ z));
@@ -35,12 +35,6 @@ refusal a b t n e h =
 acceptance : (a b t t' : List ℕ) → Mergeable a b → book_length (size a b) ≤ length t → (differs a b || ltb 4294967295 (book_length (size a b))) ≡ false
     → t' ≡ joined_book a b ++ drop (book_length (size a b)) t → Merging a b t t' (N.Is (book_length (size a b)))
 acceptance a b t t' m h e w =
-    let tested : let s = c.args in
-    (c.plan_of-p.result.differs || c.too_long.result)
-    ≡ (differs s.first.now s.second.now || ltb 4294967295 (book_length (size s.first.now s.second.now))) = let p = c.plan_of-p.ensures in ap₂ ◌||◌ p.1 (c.too_long.ensures ∙ ap (λ n. ltb 4294967295 (book_length n)) p.0) in
-    let few : let s = c.args in
-    (differs s.first.now s.second.now || ltb 4294967295 (book_length (size s.first.now s.second.now))) ≡ false = sym (tested) ∙ c.if-p-too_long.false in
-    let accepted : Mergeable c.args.first.now c.args.second.now = c.refused-number.ensures.1 c.if-number-ne0.false in
     let A = m.first_accepted in
     let B = m.second_accepted in
     let z = none_gives a b t A B h e in

@@ -4,12 +4,12 @@
 //
 // stdin is the capture's bytes. stdout has the answers' words, one a line, in hexadecimal: each call's refusal number, and
 // then what it wrote; of luma, which is never refused, the pattern. Of the areas some entries are printed, of bytes every
-// sixteenth word of eight, of the candidate page, the books of fits, the checkerboard and the answers for rectangles all.
+// sixteenth word of eight, of the candidate page, the book of fits, the checkerboard and the answers for rectangles all.
 // The number of waiting pixels is the most that the original's stack held, by `vectors::patches`. The smallest lengths are
 // those of docs/REQUIREMENTS.md, 3.1. The original has no candidate page: its text is made here, from the original's
-// candidates. Nor has it a book of fits, or two that are joined, whose bytes are made here by to_le_bytes, a checkerboard,
-// which is a formula here, or rectangles over a patch list, whose answers are worked out at their place. Pixels beyond the
-// picture's edge are counted here, by its `map` and `vectors::inside`, and the outlines of patches by `vectors::patches`.
+// candidates. Nor has it a book of fits, whose bytes are made here by to_le_bytes, a checkerboard, which is a formula here,
+// or rectangles over a patch list, whose answers are worked out at their place. Pixels beyond the picture's edge are
+// counted here, by its `map` and `vectors::inside`, and the outlines of patches by `vectors::patches`.
 use lpcorepub::frame::FrameSpec;
 use lpcorepub::geometry::{
     adaptive_black_mask, bilinear, detect_fiducials, fiducial_candidates, fit_for, fit_geometry, grid_score, luma_plane, margin_for,
@@ -158,8 +158,8 @@ fn page(v: &mut Vectors, candidates: &[Candidate]) {
 
 // ---- the book of fits
 
-// One record written; and read, the rest of both lists as it was. Its book, for those that are joined.
-fn book(v: &mut Vectors) -> Vec<u8> {
+// One record written; and read, the rest of both lists as it was.
+fn book(v: &mut Vectors) {
     let head = [7u32, 3, 1];
     let numbers: [u64; 13] = std::array::from_fn(|i| 0x0706_0504_0302_0100 + 0x1010_1010_1010_1010 * i as u64);
     let mut bytes: Vec<u8> = [1, 16, 120, 136].iter().chain(&head).chain(&[0]).flat_map(|n: &u32| n.to_le_bytes()).collect();
@@ -172,7 +172,6 @@ fn book(v: &mut Vectors) -> Vec<u8> {
     words(v, &[9, 9]);
     words(v, &numbers.map(|n| n as usize));
     words(v, &[9, 9]);
-    bytes
 }
 
 // ---- the checkerboard
@@ -202,22 +201,6 @@ fn windows(v: &mut Vectors) {
     for number in [3, 17] {
         v.word(number);
         words(v, &[9; 7]);
-    }
-}
-
-// ---- two books
-
-// That record and one of the next camera, and the rest of the target as it was; all of a target as it was after a refusal: too short,
-// another fit under the same key, and two books that are refused themselves, the first by 15 and the second by 14.
-fn joined(v: &mut Vectors, book: &[u8]) {
-    let header = [2u32, 16, 120, 256].map(u32::to_le_bytes).concat();
-    let record = &book[16..];
-    let next = [&record[..4], &4u32.to_le_bytes(), &record[8..]].concat();
-    v.word(0);
-    all_bytes(v, &[&header[..], record, &next, &[9; 8]].concat());
-    for (number, length) in [(3, 128), (18, 264), (15, 264)] {
-        v.word(number);
-        all_bytes(v, &vec![9; length]);
     }
 }
 
@@ -362,9 +345,8 @@ fn main() {
     let fit = fits(&mut v, &img, &f, &points);
     frames(&mut v, &f);
     matrices(&mut v, &f, &points, &fit);
-    let book = book(&mut v);
+    book(&mut v);
     boards(&mut v);
     windows(&mut v);
-    joined(&mut v, &book);
     v.write("test_tablet");
 }

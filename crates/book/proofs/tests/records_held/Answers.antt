@@ -2,10 +2,10 @@
 use Rattle.book.specs.Promises.{record_held, records_held}
 use Rattle.base.proofs.Every.{every_begin, every_more, every_stops, every_end}
 use borrow.Author.Tests.{not-true, not-false}
-use mathlib.Core.Bool.{true}
+use mathlib.Core.Bool.{true, not}
 use native.Mathlib.Omega.{arith}
 use Prim.Native.Nat.{◌-◌}
-use mathlib.Core.Path.{sym, ◌∙◌}
+use mathlib.Core.Path.{sym, ◌∙◌, ap}
 use Rattle.book.proofs.tests.records_held.Goals as goal
 
 pub loop-j-init : goal.loop-j-init

@@ -3,7 +3,7 @@ use Rattle.book.specs.Layout.{count_in, key_in}
 use Rattle.book.specs.Promises.{keys_rise, header_wrong, records_held}
 use Rattle.book.proofs.Refusing.{whole, count_is, header_gives, records_give, keys_give, none_gives}
 use borrow.Author.Tests.{not-true, not-false}
-use mathlib.Core.Bool.{Bool, false}
+use mathlib.Core.Bool.{Bool, false, not}
 use mathlib.Core.List.{List}
 use Prim.Native.Nat.{◌/◌}
 use native.Mathlib.Omega.{arith}

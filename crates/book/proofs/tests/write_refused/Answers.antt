@@ -2,7 +2,8 @@
 use Rattle.book.proofs.Refusing.{Lent, heads_give, numbers_give, book_gives, total_gives, grades_give, unsorted_gives, sorted_gives}
 use borrow.Author.Tests.{not-true, not-false}
 use native.Mathlib.Omega.{arith}
-use mathlib.Core.Path.{sym, ◌∙◌}
+use mathlib.Core.Path.{sym, ◌∙◌, ap}
+use mathlib.Core.Bool.{not}
 use Rattle.book.proofs.tests.write_refused.Goals as goal
 
 pub returns-then-heads-count : goal.returns-then-heads-count

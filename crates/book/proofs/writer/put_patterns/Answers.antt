@@ -28,8 +28,8 @@ loop-i-preserved c =
     let k = c.loop-i in
     let a = c.args in
     let x = c.put_little_endian in (
-      over_joined _ 8 (pattern_length a.t2) [] a.area.now k.area x.new.area (8 * k.i) k.i k.invariant.0 (omega arith)
-          (pattern_is a.t2 k.area x.new.area k.i (omega (arith, k.invariant.2)) x.ensures),
+      over_joined _ 8 (pattern_length a.numbers) [] a.area.now k.area x.new.area (8 * k.i) k.i k.invariant.0 (omega arith)
+          (pattern_is a.numbers k.area x.new.area k.i (omega (arith, k.invariant.2)) x.ensures),
       omega arith,
       same_len_mid (8 * k.i) (8 * k.i + 8 - 8 * k.i) k.area x.new.area x.auto.area ∙ k.invariant.2,
     )

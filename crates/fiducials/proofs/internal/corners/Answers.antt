@@ -17,7 +17,7 @@ in_list n k x p a e = subst (λ z. z < k) (sym e) (pick_below (corner_of n) p k 
 pub returns-then-k-lt4 : goal.returns-then-k-lt4
 returns-then-k-lt4 c =
     let a = c.args in
-    corners_refused a.candidates.now a.blob-index.now a.w a.h a.k 6 _ c.refusal.ensures (number_7 _ _ _ _ c.if-k-lt4.true)
+    corners_refused a.candidates.now a.blob_index.now a.w a.h a.k 6 _ c.refusal.ensures (number_7 _ _ _ _ c.if-k-lt4.true)
 
 pub pick-tl-requires : goal.pick-tl-requires
 pick-tl-requires c = omega arith
@@ -37,7 +37,7 @@ returns-then-shared c =
     c.shared.result ≡ shared_pick (center_at a.candidates.now) a.k = let a = c.args in
     c.shared.ensures ∙ shared_is (center_at a.candidates.now) a.k _ _ _ _ c.pick-tl.ensures c.pick-tr.ensures c.pick-br.ensures c.pick-bl.ensures in
     let a = c.args in
-    corners_refused a.candidates.now a.blob-index.now a.w a.h a.k 7 _ c.refusal-then-shared.ensures
+    corners_refused a.candidates.now a.blob_index.now a.w a.h a.k 7 _ c.refusal-then-shared.ensures
     (number_8 _ _ _ _ c.if-k-lt4.false (sym (shared_fact) ∙ c.if-shared.true))
 
 pub quad_at-quad-requires : goal.quad_at-quad-requires
@@ -68,13 +68,13 @@ returns-then-one_way-too_small c =
     c.shared.result ≡ shared_pick (center_at a.candidates.now) a.k = let a = c.args in
     c.shared.ensures ∙ shared_is (center_at a.candidates.now) a.k _ _ _ _ c.pick-tl.ensures c.pick-tr.ensures c.pick-br.ensures c.pick-bl.ensures in
     let a = c.args in
-    corners_refused a.candidates.now a.blob-index.now a.w a.h a.k 8 _ c.refusal-then-one_way-too_small.ensures (number_9 _ _ _ _ c.if-k-lt4.false (sym
+    corners_refused a.candidates.now a.blob_index.now a.w a.h a.k 8 _ c.refusal-then-one_way-too_small.ensures (number_9 _ _ _ _ c.if-k-lt4.false (sym
     (shared_fact) ∙ c.if-shared.false) (sym (bad_fact) ∙ c.if-one_way-too_small.true))
 
 pub places_at-places-requires : goal.places_at-places-requires
 places_at-places-requires c =
     let a = c.args in
-    let room : a.k ≤ length a.blob-index.now = c.requires.3 in
+    let room : a.k ≤ length a.blob_index.now = c.requires.3 in
     let four = c.if-k-lt4.false in
     let h0 = in_list 0 a.k _ _ four c.pick-tl.ensures in
     let h1 = in_list 1 a.k _ _ four c.pick-tr.ensures in
@@ -104,6 +104,6 @@ returns c =
     let e1 = c.pick-tr.ensures in
     let e2 = c.pick-br.ensures in
     let e3 = c.pick-bl.ensures in
-    corners_accepted a.candidates.now a.blob-index.now a.w a.h a.k _ _ _ (c.quad_at-quad.ensures ∙
-    quad_is p a.k _ _ _ _ e0 e1 e2 e3) (c.places_at-places.ensures ∙ places_are p a.k _ _ _ _ e0 e1 e2 e3 a.blob-index.now) refl (number_0 _ _ _
+    corners_accepted a.candidates.now a.blob_index.now a.w a.h a.k _ _ _ (c.quad_at-quad.ensures ∙
+    quad_is p a.k _ _ _ _ e0 e1 e2 e3) (c.places_at-places.ensures ∙ places_are p a.k _ _ _ _ e0 e1 e2 e3 a.blob_index.now) refl (number_0 _ _ _
     _ c.if-k-lt4.false (sym (shared_fact) ∙ c.if-shared.false) (sym (bad_fact) ∙ c.if-one_way-too_small.false))

@@ -14,7 +14,7 @@ returns-in-Accepted c =
     let l : c.lens-lens.result ≡ radial a.w a.h a.k = cc in
     let e : c.from_points-solved.result ≡ from_points (marker_centers a.frame) (undistorted (radial a.w a.h a.k) a.quad) = cc in
     ap (λ (z : Radial). record { verdict = c.from_points-solved.result.verdict; fit = record { h = c.from_points-solved.result.h; radial = z } }) l
-    ∙ solved_fits a.w a.h a.frame a.quad a.k _ e c.enum_told-1.given.1
+    ∙ solved_fits a.w a.h a.frame a.quad a.k _ e c.in-Accepted.is
 
 pub returns-in-Refused : goal.returns-in-Refused
 returns-in-Refused c =

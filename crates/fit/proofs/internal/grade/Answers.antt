@@ -15,13 +15,13 @@ use Rattle.base.specs.Loops.{filled, by_row}
 use borrow.Author.Tests.{lt-ltb, le-ltb}
 use lib.ListN.{replicate, length, length-set}
 use lib.Ieee.{Float, of_int, of_bits, binary64}
-use mathlib.Core.Logic.{⊎_elim}
 use mathlib.Core.Bool.{true, false, false≢true}
 use Rattle.frame.specs.Frame.{cols}
 use borrow.Author.Rules.{rules}
 use native.Mathlib.Omega.{arith}
 use Prim.Native.Nat.{◌≤◌, ◌<◌, ◌+◌, ◌*◌, ◌-◌}
 use mathlib.Core.Path.{◌≡◌, refl, sym, ap, ◌∙◌}
+use Rattle.fit.proofs.internal.grade.Goals.{else-rows-test, then-rows-test+then-cols-test+then-taps-test+then-tap_outside}
 use Rattle.fit.proofs.internal.grade.Goals as goal
 
 pub rows-init : goal.rows-init
@@ -145,72 +145,65 @@ rows-preserved c =
     )
 
 pub shape_of-means-then-found : goal.shape_of-means-then-found
-shape_of-means-then-found c =
-    let left_length : length c.rows-test.means
-    ≡ length c.args.means.now = let l = c.rows in
-    ⊎_elim (λ w. ap length w.1 ∙ l.invariant.6) (λ w. ap length w.9 ∙ w.1.inv.6 ∙ l.invariant.6) c.rows-test.branch in
-    left_length
+shape_of-means-then-found c = c.rows-test.auto.means ∙ c.rows.invariant.6
 
 pub returns-then-found : goal.returns-then-found
 unfolding walked
 returns-then-found c =
-    let left_walk : (let a = c.args in walk_of c.rows-test.found c.rows-test.cell
-    ≡ walked (image a.w a.h a.capture.now) a.frame a.fit) = let a = c.args in
+    let a = c.args in
     let l = c.rows in
     let img = image a.w a.h a.capture.now in
-    ⊎_elim
-    (λ w. sym (pick_no _ _ _ (w.2 ∙ l.invariant.0)) ∙ turns_end _ _ _ _ l.invariant.1 (omega arith))
-    (λ w.
-    let x = w.1.x in
-    let y = l.y in
-    let out : tap_outside img a.frame a.fit (3 * x) (3 * y) w.3.i ≡ true =
-    sym (tap_outside_is img a.frame a.fit (3 * x) (3 * y) w.3.i w.5.ensures w.7.ensures) ∙ w.8.taken in
-    let cell : c.rows-test.cell ≡ 3 * y * cols a.frame + 3 * x = w.11 ∙ ap (λ n. 3 * y * n + 3 * x) c.cols-cols.ensures in
-    sym (pick_yes _ _ _ w.10) ∙ ap Ended cell
-    ∙ sym (leaves img a.frame a.fit y x w.3.i l.invariant.1 w.1.inv.1 w.3.inv.1 out (omega arith) (omega arith) (omega arith)))
-    c.rows-test.branch in
+    let left_walk : walk_of c.rows-test.found c.rows-test.cell ≡ walked img a.frame a.fit =
+    elim c.rows-test.branch [
+      | else-rows-test w ↦ sym (pick_no _ _ _ (w.found-is ∙ l.invariant.0)) ∙ turns_end _ _ _ _ l.invariant.1 (omega arith)
+      | then-rows-test+then-cols-test+then-taps-test+then-tap_outside w ↦
+          let x = w.cols.x in
+          let y = l.y in
+          let out : tap_outside img a.frame a.fit (3 * x) (3 * y) w.taps.i ≡ true =
+          sym (tap_outside_is img a.frame a.fit (3 * x) (3 * y) w.taps.i w.tap_place-p.ensures w.tap_outside.ensures) ∙ w.if-tap_outside.true in
+          let cell : c.rows-test.cell ≡ 3 * y * cols a.frame + 3 * x = w.cell-is ∙ ap (λ n. 3 * y * n + 3 * x) c.cols-cols.ensures in
+          sym (pick_yes _ _ _ w.found-is) ∙ ap Ended cell
+          ∙ sym (leaves img a.frame a.fit y x w.taps.i l.invariant.1 w.cols.invariant.1 w.taps.invariant.1 out (omega arith) (omega arith) (omega arith))
+    ] in
     grade_out _ _ _ (pick_yes _ _ _ c.if-found.true ∙ left_walk)
 
 pub shape_of-means-then-n-lt16 : goal.shape_of-means-then-n-lt16
 shape_of-means-then-n-lt16 c =
-    let left_length : length c.rows-test.means
-    ≡ length c.args.means.now = let l = c.rows in
-    ⊎_elim (λ w. ap length w.1 ∙ l.invariant.6) (λ w. ap length w.9 ∙ w.1.inv.6 ∙ l.invariant.6) c.rows-test.branch in
+    let left_length : length c.rows-test.means ≡ length c.args.means.now = c.rows-test.auto.means ∙ c.rows.invariant.6 in
     left_length
 
 pub returns-then-n-lt16 : goal.returns-then-n-lt16
 unfolding walked
 returns-then-n-lt16 c =
     let left_sums : c.rows-test.found ≡ false
-    → (let a = c.args in
-    Sums (image a.w a.h a.capture.now) a.frame a.fit a.means.now c.rows-test.n c.rows-test.means
-    c.rows-test.within) = λ f. let l = c.rows in
+    → (let a = c.args in Sums (image a.w a.h a.capture.now) a.frame a.fit a.means.now c.rows-test.n c.rows-test.means c.rows-test.within) =
+    λ f. let l = c.rows in
     let a = c.args in
-    ⊎_elim
-    (λ w.
-    let e : l.y ≡ G.down a.frame = omega arith in
-    record {
-      count = w.4 ∙ l.invariant.3 ∙ ap (λ i. i * G.across a.frame) e;
-      means = w.1 ∙ filled_end _ _ _ _ l.invariant.4 (sym l.invariant.3 ∙ sym w.4);
-      within = w.5 ∙ l.invariant.5 ∙ ap (sum_of _) (sym l.invariant.3 ∙ sym w.4);
-    })
-    (λ w. absurd (false≢true (sym f ∙ w.10)))
-    c.rows-test.branch in
-    let left_walk : (let a = c.args in walk_of c.rows-test.found c.rows-test.cell
-    ≡ walked (image a.w a.h a.capture.now) a.frame a.fit) = let a = c.args in
+    elim c.rows-test.branch [
+      | else-rows-test w ↦
+          let e : l.y ≡ G.down a.frame = omega arith in
+          record {
+            count = w.n-is ∙ l.invariant.3 ∙ ap (λ i. i * G.across a.frame) e;
+            means = w.means-is ∙ filled_end _ _ _ _ l.invariant.4 (sym l.invariant.3 ∙ sym w.n-is);
+            within = w.within-is ∙ l.invariant.5 ∙ ap (sum_of _) (sym l.invariant.3 ∙ sym w.n-is);
+          }
+      | then-rows-test+then-cols-test+then-taps-test+then-tap_outside w ↦ absurd (false≢true (sym f ∙ w.found-is))
+    ] in
+    let a = c.args in
     let l = c.rows in
     let img = image a.w a.h a.capture.now in
-    ⊎_elim
-    (λ w. sym (pick_no _ _ _ (w.2 ∙ l.invariant.0)) ∙ turns_end _ _ _ _ l.invariant.1 (omega arith))
-    (λ w.
-    let x = w.1.x in
-    let y = l.y in
-    let out : tap_outside img a.frame a.fit (3 * x) (3 * y) w.3.i ≡ true =
-    sym (tap_outside_is img a.frame a.fit (3 * x) (3 * y) w.3.i w.5.ensures w.7.ensures) ∙ w.8.taken in
-    let cell : c.rows-test.cell ≡ 3 * y * cols a.frame + 3 * x = w.11 ∙ ap (λ n. 3 * y * n + 3 * x) c.cols-cols.ensures in
-    sym (pick_yes _ _ _ w.10) ∙ ap Ended cell
-    ∙ sym (leaves img a.frame a.fit y x w.3.i l.invariant.1 w.1.inv.1 w.3.inv.1 out (omega arith) (omega arith) (omega arith)))
-    c.rows-test.branch in
+    let left_walk : walk_of c.rows-test.found c.rows-test.cell ≡ walked img a.frame a.fit =
+    elim c.rows-test.branch [
+      | else-rows-test w ↦ sym (pick_no _ _ _ (w.found-is ∙ l.invariant.0)) ∙ turns_end _ _ _ _ l.invariant.1 (omega arith)
+      | then-rows-test+then-cols-test+then-taps-test+then-tap_outside w ↦
+          let x = w.cols.x in
+          let y = l.y in
+          let out : tap_outside img a.frame a.fit (3 * x) (3 * y) w.taps.i ≡ true =
+          sym (tap_outside_is img a.frame a.fit (3 * x) (3 * y) w.taps.i w.tap_place-p.ensures w.tap_outside.ensures) ∙ w.if-tap_outside.true in
+          let cell : c.rows-test.cell ≡ 3 * y * cols a.frame + 3 * x = w.cell-is ∙ ap (λ n. 3 * y * n + 3 * x) c.cols-cols.ensures in
+          sym (pick_yes _ _ _ w.found-is) ∙ ap Ended cell
+          ∙ sym (leaves img a.frame a.fit y x w.taps.i l.invariant.1 w.cols.invariant.1 w.taps.invariant.1 out (omega arith) (omega arith) (omega arith))
+    ] in
     let f = c.if-found.false in
     let m = left_sums f in
     grade_in_lem _ _ _ (pick_no _ _ _ f ∙ left_walk) m.count (pick_yes _ _ _ (lt-ltb _ _ c.if-n-lt16.true))
@@ -219,23 +212,20 @@ pub fisher-score-requires : goal.fisher-score-requires
 unfolding sampled_cells
 fisher-score-requires c =
     let left_sums : c.rows-test.found ≡ false
-    → (let a = c.args in
-    Sums (image a.w a.h a.capture.now) a.frame a.fit a.means.now c.rows-test.n c.rows-test.means
-    c.rows-test.within) = λ f. let l = c.rows in
+    → (let a = c.args in Sums (image a.w a.h a.capture.now) a.frame a.fit a.means.now c.rows-test.n c.rows-test.means c.rows-test.within) =
+    λ f. let l = c.rows in
     let a = c.args in
-    ⊎_elim
-    (λ w.
-    let e : l.y ≡ G.down a.frame = omega arith in
-    record {
-      count = w.4 ∙ l.invariant.3 ∙ ap (λ i. i * G.across a.frame) e;
-      means = w.1 ∙ filled_end _ _ _ _ l.invariant.4 (sym l.invariant.3 ∙ sym w.4);
-      within = w.5 ∙ l.invariant.5 ∙ ap (sum_of _) (sym l.invariant.3 ∙ sym w.4);
-    })
-    (λ w. absurd (false≢true (sym f ∙ w.10)))
-    c.rows-test.branch in
-    let left_length : length c.rows-test.means
-    ≡ length c.args.means.now = let l = c.rows in
-    ⊎_elim (λ w. ap length w.1 ∙ l.invariant.6) (λ w. ap length w.9 ∙ w.1.inv.6 ∙ l.invariant.6) c.rows-test.branch in
+    elim c.rows-test.branch [
+      | else-rows-test w ↦
+          let e : l.y ≡ G.down a.frame = omega arith in
+          record {
+            count = w.n-is ∙ l.invariant.3 ∙ ap (λ i. i * G.across a.frame) e;
+            means = w.means-is ∙ filled_end _ _ _ _ l.invariant.4 (sym l.invariant.3 ∙ sym w.n-is);
+            within = w.within-is ∙ l.invariant.5 ∙ ap (sum_of _) (sym l.invariant.3 ∙ sym w.n-is);
+          }
+      | then-rows-test+then-cols-test+then-taps-test+then-tap_outside w ↦ absurd (false≢true (sym f ∙ w.found-is))
+    ] in
+    let left_length : length c.rows-test.means ≡ length c.args.means.now = c.rows-test.auto.means ∙ c.rows.invariant.6 in
     let a = c.args in
     let m = left_sums c.if-found.false in
     let l : length c.rows-test.means ≡ G.down a.frame * G.across a.frame = left_length ∙ c.requires.2 in
@@ -244,44 +234,41 @@ fisher-score-requires c =
 
 pub shape_of-means : goal.shape_of-means
 shape_of-means c =
-    let left_length : length c.rows-test.means
-    ≡ length c.args.means.now = let l = c.rows in
-    ⊎_elim (λ w. ap length w.1 ∙ l.invariant.6) (λ w. ap length w.9 ∙ w.1.inv.6 ∙ l.invariant.6) c.rows-test.branch in
+    let left_length : length c.rows-test.means ≡ length c.args.means.now = c.rows-test.auto.means ∙ c.rows.invariant.6 in
     left_length
 
 pub returns : goal.returns
 unfolding sampled_cells fisher walked
 returns c =
     let left_sums : c.rows-test.found ≡ false
-    → (let a = c.args in
-    Sums (image a.w a.h a.capture.now) a.frame a.fit a.means.now c.rows-test.n c.rows-test.means
-    c.rows-test.within) = λ f. let l = c.rows in
+    → (let a = c.args in Sums (image a.w a.h a.capture.now) a.frame a.fit a.means.now c.rows-test.n c.rows-test.means c.rows-test.within) =
+    λ f. let l = c.rows in
     let a = c.args in
-    ⊎_elim
-    (λ w.
-    let e : l.y ≡ G.down a.frame = omega arith in
-    record {
-      count = w.4 ∙ l.invariant.3 ∙ ap (λ i. i * G.across a.frame) e;
-      means = w.1 ∙ filled_end _ _ _ _ l.invariant.4 (sym l.invariant.3 ∙ sym w.4);
-      within = w.5 ∙ l.invariant.5 ∙ ap (sum_of _) (sym l.invariant.3 ∙ sym w.4);
-    })
-    (λ w. absurd (false≢true (sym f ∙ w.10)))
-    c.rows-test.branch in
-    let left_walk : (let a = c.args in walk_of c.rows-test.found c.rows-test.cell
-    ≡ walked (image a.w a.h a.capture.now) a.frame a.fit) = let a = c.args in
+    elim c.rows-test.branch [
+      | else-rows-test w ↦
+          let e : l.y ≡ G.down a.frame = omega arith in
+          record {
+            count = w.n-is ∙ l.invariant.3 ∙ ap (λ i. i * G.across a.frame) e;
+            means = w.means-is ∙ filled_end _ _ _ _ l.invariant.4 (sym l.invariant.3 ∙ sym w.n-is);
+            within = w.within-is ∙ l.invariant.5 ∙ ap (sum_of _) (sym l.invariant.3 ∙ sym w.n-is);
+          }
+      | then-rows-test+then-cols-test+then-taps-test+then-tap_outside w ↦ absurd (false≢true (sym f ∙ w.found-is))
+    ] in
+    let a = c.args in
     let l = c.rows in
     let img = image a.w a.h a.capture.now in
-    ⊎_elim
-    (λ w. sym (pick_no _ _ _ (w.2 ∙ l.invariant.0)) ∙ turns_end _ _ _ _ l.invariant.1 (omega arith))
-    (λ w.
-    let x = w.1.x in
-    let y = l.y in
-    let out : tap_outside img a.frame a.fit (3 * x) (3 * y) w.3.i ≡ true =
-    sym (tap_outside_is img a.frame a.fit (3 * x) (3 * y) w.3.i w.5.ensures w.7.ensures) ∙ w.8.taken in
-    let cell : c.rows-test.cell ≡ 3 * y * cols a.frame + 3 * x = w.11 ∙ ap (λ n. 3 * y * n + 3 * x) c.cols-cols.ensures in
-    sym (pick_yes _ _ _ w.10) ∙ ap Ended cell
-    ∙ sym (leaves img a.frame a.fit y x w.3.i l.invariant.1 w.1.inv.1 w.3.inv.1 out (omega arith) (omega arith) (omega arith)))
-    c.rows-test.branch in
+    let left_walk : walk_of c.rows-test.found c.rows-test.cell ≡ walked img a.frame a.fit =
+    elim c.rows-test.branch [
+      | else-rows-test w ↦ sym (pick_no _ _ _ (w.found-is ∙ l.invariant.0)) ∙ turns_end _ _ _ _ l.invariant.1 (omega arith)
+      | then-rows-test+then-cols-test+then-taps-test+then-tap_outside w ↦
+          let x = w.cols.x in
+          let y = l.y in
+          let out : tap_outside img a.frame a.fit (3 * x) (3 * y) w.taps.i ≡ true =
+          sym (tap_outside_is img a.frame a.fit (3 * x) (3 * y) w.taps.i w.tap_place-p.ensures w.tap_outside.ensures) ∙ w.if-tap_outside.true in
+          let cell : c.rows-test.cell ≡ 3 * y * cols a.frame + 3 * x = w.cell-is ∙ ap (λ n. 3 * y * n + 3 * x) c.cols-cols.ensures in
+          sym (pick_yes _ _ _ w.found-is) ∙ ap Ended cell
+          ∙ sym (leaves img a.frame a.fit y x w.taps.i l.invariant.1 w.cols.invariant.1 w.taps.invariant.1 out (omega arith) (omega arith) (omega arith))
+    ] in
     let a = c.args in
     let f = c.if-found.false in
     let m = left_sums f in

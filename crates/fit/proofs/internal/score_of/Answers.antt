@@ -10,7 +10,7 @@ returns-in-Score c = sym (ap score_of c.in-Score.is)
 
 pub returns-in-Outside : goal.returns-in-Outside
 unfolding score_of neg div of_bits
-returns-in-Outside c = sym (ap score_of c.enum_told-1.given.1)
+returns-in-Outside c = sym (ap score_of c.in-Outside.is)
 
 pub returns-in-TooFew : goal.returns-in-TooFew
 unfolding score_of neg div of_bits

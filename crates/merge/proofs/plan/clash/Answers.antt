@@ -12,7 +12,7 @@ same_record-requires c =
 
 pub returns-in-First : goal.returns-in-First
 unfolding clash
-returns-in-First c = sym (ap (clash _ _ _) c.enum_told-1.given.1)
+returns-in-First c = sym (ap (clash _ _ _) c.in-First.is)
 
 pub returns-in-Second : goal.returns-in-Second
 unfolding clash

@@ -7,7 +7,7 @@ use Rattle.merge.proofs.walk.pass.Goals as goal
 
 pub returns-in-First : goal.returns-in-First
 unfolding passed
-returns-in-First c = sym (ap (passed _) c.enum_told-1.given.1)
+returns-in-First c = sym (ap (passed _) c.in-First.is)
 
 pub returns-in-Second : goal.returns-in-Second
 unfolding passed

@@ -1,7 +1,8 @@
 -- `page::tests::refused` meets its contract. Assumes nothing.
 use borrow.Author.Tests.{not-true, not-false}
+use mathlib.Core.Bool.{not}
 use native.Mathlib.Omega.{arith}
-use mathlib.Core.Path.{sym, ◌∙◌}
+use mathlib.Core.Path.{sym, ◌∙◌, ap}
 use Rattle.page.proofs.Refusing.{gives_3, gives_12, gives_13_many, gives_13, gives_0, fitting}
 use Rattle.page.proofs.tests.refused.Goals as goal
 

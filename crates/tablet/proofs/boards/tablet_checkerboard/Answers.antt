@@ -3,4 +3,4 @@ use Rattle.tablet.proofs.Given.{drawing}
 use Rattle.tablet.proofs.boards.tablet_checkerboard.Goals as goal
 
 pub returns : goal.returns
-returns c = drawing _ _ _ _ _ _ c.number_of_lem.ensures c.checkerboard-v.ensures
+returns c = drawing _ _ _ _ _ _ c.number_of.ensures c.checkerboard-v.ensures

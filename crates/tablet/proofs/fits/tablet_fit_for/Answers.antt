@@ -36,7 +36,7 @@ returns-then-n-ne0 c =
     let f = frame a.width a.height a.cell a.margin in
     let e = c.fit_for-a.ensures ∙ ap (λ q. fitted_by (fit_for_tests a.w a.h f q a.k) (fit_for a.w a.h f q a.k)) c.quad-q.ensures in
     numbered _ _ _ _
-    (c.number_of_lem.ensures ∙ ap (λ (t : Fitted). number_of t.verdict) e ∙ fitted_number _ _
+    (c.number_of-n.ensures ∙ ap (λ (t : Fitted). number_of t.verdict) e ∙ fitted_number _ _
     ∙ sym (lowest_without 3 _ (check 5 (no_layout f) ∷ check 10 (not (fits_for a.w a.h f (quad_of a.points.now) a.k))
     ∷ []) (check 1 (frame_outside f) ∷ check 2 (sides_wrong a.w a.h) ∷ []) (sym c.short.ensures.0 ∙ c.if-short.false)))
     c.if-n-ne0.true
@@ -50,7 +50,7 @@ returns c =
     let a = c.args in
     let f = frame a.width a.height a.cell a.margin in
     let e = c.fit_for-a.ensures ∙ ap (λ q. fitted_by (fit_for_tests a.w a.h f q a.k) (fit_for a.w a.h f q a.k)) c.quad-q.ensures in
-    let z : lowest_of (fit_for_tests a.w a.h f (quad_of a.points.now) a.k) ≡ 0 = sym (c.number_of_lem.ensures ∙ ap (λ (t : Fitted). number_of t.verdict) e ∙ fitted_number _ _) ∙ c.if-n-ne0.false in
+    let z : lowest_of (fit_for_tests a.w a.h f (quad_of a.points.now) a.k) ≡ 0 = sym (c.number_of-n.ensures ∙ ap (λ (t : Fitted). number_of t.verdict) e ∙ fitted_number _ _) ∙ c.if-n-ne0.false in
     accepted _ _ _ (lowest_without 3 _ (check 5 (no_layout f) ∷ check 10 (not (fits_for a.w a.h f (quad_of a.points.now) a.k)) ∷ []) (check
     1 (frame_outside f) ∷ check 2 (sides_wrong a.w a.h) ∷ []) (sym c.short.ensures.0 ∙ c.if-short.false) ∙ z) (c.store_fit.ensures ∙ ap (λ t. written (fit_numbers t) a.fit.now) (ap (λ (t : Fitted). t.fit) e ∙
     fitted_fit _ _ z))

@@ -23,7 +23,7 @@ store_counts-requires c =
 
 pub store-requires : goal.store-requires
 store-requires c =
-    (c.short3.ensures.1 c.if-short3.left).2
+    (c.short3.ensures.1 c.if-short3.false).2
 
 pub returns-in-Refused : goal.returns-in-Refused
 unfolding score_number

@@ -3,4 +3,4 @@ use Rattle.tablet.proofs.Given.{stamping}
 use Rattle.tablet.proofs.frames.tablet_stamp_fiducials.Goals as goal
 
 pub returns : goal.returns
-returns c = stamping _ _ _ _ _ c.number_of_lem.ensures c.stamp_fiducials-v.ensures
+returns c = stamping _ _ _ _ _ c.number_of.ensures c.stamp_fiducials-v.ensures

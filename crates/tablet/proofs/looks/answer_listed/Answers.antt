@@ -6,8 +6,8 @@ use mathlib.Core.Path.{sym, ◌∙◌}
 use Rattle.tablet.proofs.looks.answer_listed.Goals as goal
 
 pub returns-then-n-ne0 : goal.returns-then-n-ne0
-returns-then-n-ne0 c = (c.number_of_lem.ensures, answered_refused _ _ c.if-n-ne0.true)
+returns-then-n-ne0 c = (c.number_of-n.ensures, answered_refused _ _ c.if-n-ne0.true)
 
 pub returns : goal.returns
 unfolding answered list_numbers
-returns c = (sym c.if-n-ne0.false ∙ c.number_of_lem.ensures, c.store_counts.ensures)
+returns c = (sym c.if-n-ne0.false ∙ c.number_of-n.ensures, c.store_counts.ensures)

@@ -9,7 +9,7 @@ returns-then-short c = over_short (sym c.short.ensures.0 ∙ c.if-short.true) c.
 
 pub answer_detected-requires : goal.answer_detected-requires
 answer_detected-requires c =
-    c.short.ensures.1 c.if-short.left
+    c.short.ensures.1 c.if-short.false
 
 pub shape_of-luma : goal.shape_of-luma
 shape_of-luma c = c.detect_fiducials-a.auto.luma
@@ -45,7 +45,7 @@ pub returns : goal.returns
 returns c =
     let d = c.detect_fiducials-a in
     let n = c.answer_detected.ensures in
-    over_done (sym c.short.ensures.0 ∙ c.if-short.left) (record {
+    over_done (sym c.short.ensures.0 ∙ c.if-short.false) (record {
       patches = d.result.patches;
       candidates = d.result.candidates;
       waited = d.result.waited;

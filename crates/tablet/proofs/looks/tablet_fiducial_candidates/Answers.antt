@@ -42,7 +42,7 @@ pub returns : goal.returns
 returns c =
     let l = c.fiducial_candidates-a in
     let n = c.answer_listed.ensures in
-    over_done (le-ltb _ _ c.if-counts-lt3.left) (record {
+    over_done (le-ltb _ _ c.if-counts-lt3.false) (record {
       patches = l.result.patches;
       candidates = l.result.candidates;
       waited = l.result.waited;

@@ -5,11 +5,11 @@ use mathlib.Core.Path.{sym, ◌∙◌}
 use Rattle.tablet.proofs.matrices.answer.Goals as goal
 
 pub returns-then-n-ne0 : goal.returns-then-n-ne0
-returns-then-n-ne0 c = (c.number_of_lem.ensures, answered_refused _ _ c.if-n-ne0.true)
+returns-then-n-ne0 c = (c.number_of-n.ensures, answered_refused _ _ c.if-n-ne0.true)
 
 pub returns : goal.returns
 unfolding answered
 returns c = (
-  sym c.if-n-ne0.false ∙ c.number_of_lem.ensures,
+  sym c.if-n-ne0.false ∙ c.number_of-n.ensures,
   c.store_matrix.ensures,
 )

@@ -28,5 +28,5 @@ returns c =
     let n = c.answer.ensures in
     record {
       number = n.0 ∙ inverse_number _ _ s ∙ sym (lowest_next 3 _ _ (sym c.short.ensures.0 ∙ c.if-short.false));
-      result = n.1 ∙ ap (λ (g : Solved). answered c.answer.result (matrix_numbers g.h.m) a.result.now) s;
+      result = n.1 ∙ ap (λ (g : Solved). answered c.answer.result (matrix_numbers g.h.m) a.res.now) s;
     }

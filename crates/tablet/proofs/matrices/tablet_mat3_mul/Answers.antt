@@ -29,5 +29,5 @@ unfolding product_tests
 returns c =
     let a = c.args in
     let y = c.matrix_of-y.result.m in
-    accepted _ _ _ (lowest_next 3 _ _ (sym c.short3.ensures.0 ∙ c.if-short3.false) ∙ lowest_none) (c.store_matrix.ensures ∙ ap (λ m. written (matrix_numbers m) a.result.now) (c.mat3_mul-p.ensures ∙ ap
+    accepted _ _ _ (lowest_next 3 _ _ (sym c.short3.ensures.0 ∙ c.if-short3.false) ∙ lowest_none) (c.store_matrix.ensures ∙ ap (λ m. written (matrix_numbers m) a.res.now) (c.mat3_mul-p.ensures ∙ ap
     (λ (h : Homography). mat3_mul h.m y) c.matrix_of-x.ensures ∙ ap (λ (h : Homography). mat3_mul (matrix_of a.a.now).m h.m) c.matrix_of-y.ensures))

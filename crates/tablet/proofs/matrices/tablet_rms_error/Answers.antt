@@ -27,5 +27,5 @@ pub returns : goal.returns
 unfolding error_tests
 returns c =
     let a = c.args in
-    accepted _ _ _ (lowest_next 3 _ _ (sym c.short3.ensures.0 ∙ c.if-short3.false) ∙ lowest_none) (c.store.ensures ∙ ap (λ e. written (e ∷ []) a.result.now) (c.rms_error-e.ensures ∙ ap (λ q.
+    accepted _ _ _ (lowest_next 3 _ _ (sym c.short3.ensures.0 ∙ c.if-short3.false) ∙ lowest_none) (c.store.ensures ∙ ap (λ e. written (e ∷ []) a.res.now) (c.rms_error-e.ensures ∙ ap (λ q.
     rms_error q c.quad-q.result) c.quad-p.ensures ∙ ap (rms_error (quad_of a.a.now)) c.quad-q.ensures))

@@ -3,4 +3,4 @@ use Rattle.tablet.proofs.Given.{paging}
 use Rattle.tablet.proofs.pages.tablet_candidate_page.Goals as goal
 
 pub returns : goal.returns
-returns c = paging _ _ _ _ _ _ c.number_of_lem.ensures c.candidate_page-v.ensures
+returns c = paging _ _ _ _ _ _ c.number_of.ensures c.candidate_page-v.ensures

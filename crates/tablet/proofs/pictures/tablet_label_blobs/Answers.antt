@@ -14,7 +14,7 @@ returns-then-n-ne0 c =
     over_done (le-ltb _ _ c.if-counts-lt2.false) (record {
       patches = c.label_blobs-a.result.patches;
       waited = c.label_blobs-a.result.waited;
-      labelling = labelling _ _ _ _ _ _ _ _ _ c.number_of_lem.ensures c.label_blobs-a.ensures;
+      labelling = labelling _ _ _ _ _ _ _ _ _ c.number_of-n.ensures c.label_blobs-a.ensures;
       counts_are = answered_refused
           _ _ c.if-n-ne0.true;
     })
@@ -27,6 +27,6 @@ returns c =
           c.label_blobs-a.result.patches;
       waited = c.label_blobs-a.result.waited;
       labelling = labelling _ _ _ _ _ _ _ _ _ (sym c.if-n-ne0.false
-          ∙ c.number_of_lem.ensures) c.label_blobs-a.ensures;
+          ∙ c.number_of-n.ensures) c.label_blobs-a.ensures;
       counts_are = c.store_counts.ensures;
     })

@@ -3,4 +3,4 @@ use Rattle.tablet.proofs.Given.{windowing}
 use Rattle.tablet.proofs.rectangles.tablet_patch_windows.Goals as goal
 
 pub returns : goal.returns
-returns c = windowing _ _ _ _ _ _ _ _ c.number_of_lem.ensures c.patch_windows-v.ensures
+returns c = windowing _ _ _ _ _ _ _ _ c.number_of.ensures c.patch_windows-v.ensures

@@ -8,7 +8,7 @@ returns-then-short c = over_short (sym c.short.ensures.0 ∙ c.if-short.true) c.
 
 pub tell-requires : goal.tell-requires
 tell-requires c =
-    c.short.ensures.1 c.if-short.left
+    c.short.ensures.1 c.if-short.false
 
 pub shape_of-luma : goal.shape_of-luma
 shape_of-luma c = c.fit_geometry-a.auto.luma
@@ -45,7 +45,7 @@ shape_of-fit c = c.tell.auto.fit
 
 pub returns : goal.returns
 returns c =
-    over_done (sym c.short.ensures.0 ∙ c.if-short.left) (record {
+    over_done (sym c.short.ensures.0 ∙ c.if-short.false) (record {
       answer = c.fit_geometry-a.result;
       fitting = c.fit_geometry-a.ensures;
       tells = c.tell.ensures;

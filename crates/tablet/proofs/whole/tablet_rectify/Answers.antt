@@ -8,7 +8,7 @@ returns-then-short c = over_short (sym c.short.ensures.0 ∙ c.if-short.true) c.
 
 pub tell_flat-requires : goal.tell_flat-requires
 tell_flat-requires c =
-    c.short.ensures.1 c.if-short.left
+    c.short.ensures.1 c.if-short.false
 
 pub shape_of-luma : goal.shape_of-luma
 shape_of-luma c = c.rectify-a.auto.luma
@@ -48,7 +48,7 @@ shape_of-fit c = c.tell_flat.auto.fit
 
 pub returns : goal.returns
 returns c =
-    over_done (sym c.short.ensures.0 ∙ c.if-short.left) (record {
+    over_done (sym c.short.ensures.0 ∙ c.if-short.false) (record {
       answer = c.rectify-a.result.picture;
       beyond = c.rectify-a.result.beyond;
       rectification =
