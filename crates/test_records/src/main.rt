@@ -1,4 +1,4 @@
-// The two forms proved by hand. Labels a mask of 3 by 3, keeps the patches in a slice of records
+// The read view and the slices of records. Labels a mask of 3 by 3, keeps the patches in a slice of records
 // and prints those fetched from it; reads a picture of 3 by 3 through the view; and does with the
 // candidates of a capture of 64 by 64 as with the patches. stdin: the mask's nine bytes, the
 // picture's 27 and the capture's 12,288. The expected output is the original's (host/vectors,
@@ -93,7 +93,7 @@ fn find(console: &mut Console, capture: &[u8]) {
 }
 
 // ---- the slices of records: arrays by value, lent to the crate's store and fetch. Only these four
-// functions lend them, so only they are proved by a walk.
+// functions lend them.
 
 fn stored_patch(list: [Blob; 5], patches: &[u64], j: usize) -> [Blob; 5]
     requires { (j < 5) × (record_length * (j + 1) ≤ length patches.now) }
