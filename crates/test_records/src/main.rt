@@ -1,8 +1,4 @@
-<<<<<<< HEAD
 // The two further forms. Labels a mask of 3 by 3, keeps the patches in a slice of records
-=======
-// The read view and the slices of records. Labels a mask of 3 by 3, keeps the patches in a slice of records
->>>>>>> 1db5df5c1863f247fd564660644cfb6e7cd3991f
 // and prints those fetched from it; reads a picture of 3 by 3 through the view; and does with the
 // candidates of a capture of 64 by 64 as with the patches. stdin: the mask's nine bytes, the
 // picture's 27 and the capture's 12,288. The expected output is the original's (host/vectors,
@@ -96,13 +92,8 @@ fn find(console: &mut Console, capture: &[u8]) {
     }
 }
 
-<<<<<<< HEAD
 // ---- the slices of records: arrays by value, lent to the crate's store and fetch by these four
 // functions.
-=======
-// ---- the slices of records: arrays by value, lent to the crate's store and fetch. Only these four
-// functions lend them.
->>>>>>> 1db5df5c1863f247fd564660644cfb6e7cd3991f
 
 fn stored_patch(list: [Blob; 5], patches: &[u64], j: usize) -> [Blob; 5]
     requires { (j < 5) × (record_length * (j + 1) ≤ length patches.now) }
