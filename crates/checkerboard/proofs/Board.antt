@@ -3,14 +3,13 @@ use Prim.Native.Nat.{ℕ, ◌+◌, ◌*◌, ◌/◌, ◌%◌, ◌≤◌, ◌<◌
 use native.Mathlib.Nat.{add-mul, mul-add, mul-one, mod-lt, div-add-mod'}
 use native.Mathlib.Decide.{dec_lt, ℕ_discrete}
 use native.Mathlib.Omega.{arith}
-use mathlib.Core.Path.{◌≡◌, refl, sym, ap, ◌∙◌}
+use mathlib.Core.Path.{◌≡◌, refl, ap, ◌∙◌}
 use mathlib.Core.Logic.{◌⊎◌, inl, inr}
 use lib.Arith.{digits_div, digits_mod}
 use lib.Dec.{eqb}
 use lib.ListN.{length}
-use borrow.Author.Tests.{eqb-true, eq-eqb}
 use Rattle.base.specs.Loops.{by_row}
-use Rattle.base.proofs.Pick.{pick_yes, cond_elim}
+use Rattle.base.proofs.Pick.{cond_elim}
 use Rattle.base.proofs.Table.{table_at, length_table}
 use Rattle.blobs.specs.Patches.{Dark, Touch, Joined}
 use Rattle.blobs.specs.Patches.Touch.{right, left, under, over}
@@ -18,24 +17,13 @@ use Rattle.blobs.specs.Patches.Joined.{here, step}
 use Rattle.blobs.proofs.Grid.{dark_inside, next_col}
 use Rattle.blobs.proofs.Joins.{joined_dark}
 use Rattle.checkerboard.specs.Board.{square, square_at, board, reserved}
+use Rattle.checkerboard.proofs.Steps.{steps, dark_even, even_dark}
 
 -- ---- one pixel
-
--- column plus row: the steps from pixel to pixel that lead to it from the first
-abbrev steps : ℕ → ℕ → ℕ
-steps w i = i % w + i / w
 
 pub square_most : (w i : ℕ) → square_at w i ≤ 1
 unfolding square_at by_row square
 square_most w i = cond_elim (λ z. z ≤ 1) (eqb (steps w i % 2) 0) 1 0 (λ e. omega arith) (λ e. omega arith)
-
-dark_even : (w i : ℕ) → (square_at w i ≡ 0 → ⊥) → steps w i % 2 ≡ 0
-unfolding square_at by_row square
-dark_even w i = cond_elim (λ z. (z ≡ 0 → ⊥) → steps w i % 2 ≡ 0) (eqb (steps w i % 2) 0) 1 0 (λ e n. eqb-true _ 0 e) (λ e n. absurd (n refl))
-
-even_dark : (w i : ℕ) → steps w i % 2 ≡ 0 → square_at w i ≡ 1
-unfolding square_at by_row square
-even_dark w i e = sym (pick_yes (eqb (steps w i % 2) 0) 1 0 (eq-eqb _ 0 e))
 
 -- ---- a neighbour is one step further or nearer
 next_row_same : (p w : ℕ) → p % w + 1 < w → (p + 1) / w ≡ p / w

@@ -1,5 +1,7 @@
 -- Laws that the proofs of this crate, and of those above it, cite.
 pub mod Picks
+pub mod OneMore
+pub mod Furthest
 pub mod Keys
 pub mod Unique
 pub mod Named

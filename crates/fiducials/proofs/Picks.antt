@@ -1,14 +1,11 @@
--- `pick` names the candidate that lies furthest out, and the first of equals. Assumes nothing.
-use mathlib.Core.Path.{◌≡◌, refl, sym, subst}
+-- Which candidate lies further out, and that `pick` names one of them. Assumes nothing.
 use mathlib.Core.Bool.{Bool, true, false, not, cond}
-use mathlib.Core.Logic.{⊎_elim}
 use Prim.Native.Nat.{ℕ, zero, suc, ◌≤◌, ◌<◌}
 use native.Mathlib.Omega.{arith}
-use lib.Dec.{T, T_not, not_T}
+use lib.Dec.{T}
 use lib.Ieee.{is_nan}
 use Rattle.frame.specs.declared.Point.{Point}
 use Rattle.base.specs.Loops.{turns}
-use Rattle.base.proofs.Arith.{last_or}
 use Rattle.fiducials.specs.Corners.{Corner, key, further, pick_step, pick}
 use Rattle.fiducials.specs.Corners.Corner.{TL, TR, BR, BL}
 use Rattle.float.proofs.Ordering.{lt_step, step_lt, lt_trans, lt_irrefl}
@@ -52,37 +49,6 @@ pick_upto c p (suc n) = up n (further c (p n) (p (turns n (pick_step c p) 0))) (
 pub record Best (c : Corner) (p : ℕ → Point) (n b : ℕ) : Type 0 where
   pub none_further : (i : ℕ) → i < n → T (not (further c (p i) (p b)))
   pub first : (i : ℕ) → i < b → T (further c (p b) (p i))
-
-module _ (c : Corner) (p : ℕ → Point) (N : ℕ) (number : (i : ℕ) → i < N → Number c (p i)) where
-  one_more : (n b : ℕ) → n < N → Best c p n b → Best c p (suc n) (pick_step c p n b)
-  one_more n b l h = go (further c (p n) (p b)) refl
-    where
-      go : (t : Bool) → further c (p n) (p b) ≡ t → Best c p (suc n) (cond t n b)
-      go true e =
-          let w : T (further c (p n) (p b)) = subst T (sym e) tt in
-          record {
-            none_further = λ i k. ⊎_elim
-                (λ v. subst (λ z. T (not (further c (p z) (p n)))) (sym v) (further_irrefl c (p n)))
-                (λ v. not_T (further c (p i) (p n)) (λ x. T_not (further c (p i) (p b)) (h.none_further i v) (further_trans c (p i) (p n) (p b) x w)))
-                (last_or i n k);
-            first = λ i k. further_step c (p n) (p b) (p i) (number i (omega arith)) w (h.none_further i k);
-          }
-      go false e =
-          let w : T (not (further c (p n) (p b))) = subst (λ z. T (not z)) (sym e) tt in
-          record {
-            none_further = λ i k. ⊎_elim (λ v. subst (λ z. T (not (further c (p z) (p b)))) (sym v) w) (λ v. h.none_further i v) (last_or i n k);
-            first = h.first;
-          }
-
-  picked : (n : ℕ) → n ≤ N → Best c p n (turns n (pick_step c p) 0)
-  unfolding turns
-  picked zero l = record { none_further = λ i h. absurd (omega arith); first = λ i h. absurd (omega arith) }
-  picked (suc n) l = one_more n (turns n (pick_step c p) 0) (omega arith) (picked n (omega arith))
-
-  -- no other lies further out, and each earlier one lies less far out
-  pub pick_best : Best c p N (pick c p N)
-  unfolding pick
-  pick_best = picked N (omega arith)
 
 -- the pick is one of the candidates
 below : (n : ℕ) (t : Bool) (b : ℕ) → b ≤ n → cond t n b ≤ n

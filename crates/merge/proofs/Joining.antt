@@ -15,20 +15,11 @@ use Rattle.base.proofs.Tests.{or_first, or_left, or_right, either}
 use Rattle.book.specs.Layout.{book_length, count_in, key_in, grade_in, zero_in}
 use Rattle.book.specs.Meaning.{Before, Rise, WellFormed}
 use Rattle.merge.specs.Merged.{record_in, records, key_of, Accepted, RecordOf, Joined, Differs, HasKey, DifferentKeys, merged, joined_book, size, same_record, same_key, agree, differs}
+use Rattle.merge.proofs.Same.{record_same, same_record_lem}
 use Rattle.merge.proofs.Keys.{before_other, same_key_lem, key_same, other_key}
 use Rattle.merge.proofs.Sorted.{sorted_rise}
 use Rattle.merge.proofs.Merging.{Agree, from_either, all_first, all_second, second_keys, sorted_merged}
 use Rattle.merge.proofs.Books.{record_long, word_in, key_in_lem, Formed, held, in_records, records_in, sorted_records, formed_records, book_long, book_record, book_count, book_headed}
-
--- ---- records that are the same
-
-pub record_same : (r s : List ℕ) → r ≡ s → same_record r s ≡ true
-unfolding same_record
-record_same r s e = one_every _ 120 (λ k h. eq-eqb (get_or r k 0) (get_or s k 0) (ap (λ l. get_or l k 0) e))
-
-pub same_record_lem : (r s : List ℕ) → length r ≡ 120 → length s ≡ 120 → same_record r s ≡ true → r ≡ s
-unfolding same_record
-same_record_lem r s h k e = ext_get_or 0 r s (h ∙ sym k) (λ i l. eqb-true (get_or r i 0) (get_or s i 0) (every_one _ 120 e i (omega arith)))
 
 -- ---- keys that carry the same bytes
 

@@ -3,6 +3,7 @@ pub mod Keys
 pub mod Sorted
 pub mod Merging
 pub mod Books
+pub mod Same
 pub mod Joining
 pub mod Walks
 pub mod Plans
