@@ -1,7 +1,7 @@
-// The read view and the slices of records. Labels a mask of 3 by 3, keeps the patches in a slice of records
-// and prints those fetched from it; reads a picture of 3 by 3 through the view; and does with the
-// candidates of a capture of 64 by 64 as with the patches. stdin: the mask's nine bytes, the
-// picture's 27 and the capture's 12,288. The expected output is the original's (host/vectors,
+// The read view and the slices of records. Labels a mask of 3 by 3, keeps the patches in a slice of
+// records and prints those fetched from it; reads a picture of 3 by 3 through the view; and does
+// with the candidates of a capture of 64 by 64 as with the patches. stdin: the mask's nine bytes,
+// the picture's 27 and the capture's 12,288. The expected output is the original's (host/vectors,
 // forms).
 #![tactic(auto)]
 
