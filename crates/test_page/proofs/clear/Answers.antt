@@ -1,5 +1,5 @@
 -- A turn writes the next.
-use Rattle.std.proofs.Common.{◌≡◌, refl, arith}
+use Rattle.std.proofs.Common.{refl, arith}
 use Rattle.base.proofs.Plane.{filled_begin, filled_step, filled_end}
 use Rattle.test_page.proofs.clear.Goals as goal
 

@@ -1,5 +1,5 @@
 -- A turn stores the next record.
-use Rattle.std.proofs.Common.{◌≡◌, ◌∙◌, refl, arith}
+use Rattle.std.proofs.Common.{◌∙◌, refl, arith}
 use lib.Ieee.{of_int, of_bits}
 use Rattle.base.proofs.Plane.{filled_begin, filled_step, filled_end}
 use Rattle.test_records.proofs.keep_candidates.Goals as goal

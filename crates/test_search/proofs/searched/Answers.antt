@@ -1,7 +1,6 @@
 -- `searched` may call the search once its tests have passed.
-use Rattle.std.proofs.Common.{sym, ◌∙◌, ◌≡◌, ◌≤◌, length, take, arith}
+use Rattle.std.proofs.Common.{sym, ◌∙◌, arith}
 use lib.Seq.{length-take-le}
-use Rattle.frame.specs.Limits.{FrameHeld}
 use Rattle.frame.proofs.Held.{frame_held, capture_held}
 use Rattle.test_search.proofs.searched.Goals as goal
 
