@@ -3,7 +3,8 @@
 // answers the first failure.
 #![tactic(auto)]
 
-ghost use Rattle.std.specs.Prelude.{◌≡◌, ◌<◌, ◌≤◌, length, take, IfOk};
+ghost use Rattle.console.specs.Failures.{first_failure, KeepsFirst};
+ghost use Rattle.std.specs.Prelude.{◌≡◌, ◌<◌, ◌≤◌, length, take, IfOk, IsOk, MatchOption};
 ghost use Rattle.std.specs.Io.{ReadsAtMost};
 ghost use Rattle.std.specs.Io.KnownBytes.{Consumes, IsAtEnd};
 
@@ -17,7 +18,9 @@ pub struct Console {
 }
 
 impl Console {
-    pub fn new(rt: HostRuntime) -> Console {
+    pub fn new(rt: HostRuntime) -> Console
+        ensures { result.failure ≡ None }
+    {
         Console { rt, failure: None }
     }
 
@@ -26,6 +29,7 @@ impl Console {
     pub fn read_full(&mut self, buf: &mut [u8]) -> usize
         ensures within { result ≤ length buf.new }
         ensures taken { result ≡ length (take result buf.new) }
+        ensures first { KeepsFirst self.old.failure self.new.failure }
     {
         let read = read_full(&mut self.rt.stdin(), buf);
         match read {
@@ -37,32 +41,42 @@ impl Console {
         }
     }
 
-    pub fn text(&mut self, bytes: &[u8]) {
+    pub fn text(&mut self, bytes: &[u8])
+        ensures { KeepsFirst self.old.failure self.new.failure }
+    {
         let done = self.rt.write_all(bytes);
         self.keep(done);
     }
 
     // The decimal digits of n.
-    pub fn decimal(&mut self, n: u64) {
+    pub fn decimal(&mut self, n: u64)
+        ensures { KeepsFirst self.old.failure self.new.failure }
+    {
         let done = self.rt.print(n);
         self.keep(done);
     }
 
     // The hexadecimal digits of n, in lower case, with zeros in front up to that many digits.
-    pub fn hex(&mut self, n: u64, digits: usize) {
+    pub fn hex(&mut self, n: u64, digits: usize)
+        ensures { KeepsFirst self.old.failure self.new.failure }
+    {
         let done = print!(self.rt; "{n:0digits$x}");
         self.keep(done);
     }
 
     // The first failure.
-    pub fn finish(self) -> io::Result<()> {
+    pub fn finish(self) -> io::Result<()>
+        ensures { MatchOption self.failure (IsOk result) (λ e. result ≡ Err e) }
+    {
         match self.failure {
             None => Ok(()),
             Some(e) => Err(e),
         }
     }
 
-    fn keep(&mut self, done: io::Result<()>) {
+    fn keep(&mut self, done: io::Result<()>)
+        ensures { self.new.failure ≡ first_failure self.old.failure done }
+    {
         if let Err(e) = done {
             if self.failure.is_none() {
                 self.failure = Some(e);
