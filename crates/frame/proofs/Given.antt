@@ -1,80 +1,115 @@
--- Answers from the tests' number. Assumes nothing.
+-- Answers from the tests. Assumes nothing.
 use mathlib.Core.Path.{◌≡◌, refl, sym, ap, ◌∙◌}
-use mathlib.Core.List.{List}
-use Prim.Native.Nat.{ℕ, zero, suc}
-use Rattle.frame.specs.Refusals.{Check, lowest_of, verdict_of, number_of}
-use Rattle.frame.specs.Answers.{number_refusal, number_value, number_as, number_for, framed_refusal, framed_value, framed_as, framed_for}
-use Rattle.frame.specs.declared.FrameSpec.{FrameSpec}
-use Rattle.frame.specs.declared.Verdict.{Verdict}
-use Rattle.frame.specs.declared.Verdict.TheVariants as D
-use Rattle.frame.specs.declared.Number.TheVariants as N
-use Rattle.frame.specs.declared.Framed.TheVariants as F
+use mathlib.Core.Bool.{Bool, true, false, cond}
+use mathlib.Core.List.{List, [], ◌∷◌}
+use Prim.Native.Nat.{ℕ, ◌≤◌}
+use native.Mathlib.Omega.{arith}
+use lib.Dec.{eqb}
+use Rattle.std.specs.Prelude.{Result, Ok, Err, ⊤}
+use Rattle.frame.specs.Refusals.{number, number_of, Check, check, lowest_of, answer_for}
+use Rattle.frame.specs.declared.refusals.Refusal.{Refusal}
+use Rattle.frame.specs.declared.refusals.Refusal.TheVariants.{FrameOutside, CaptureWrong, AreaShort, CanonicalWrong, NoLayout, CaptureSmall, FewCandidates, SharedCandidate, Crooked}
+use Rattle.frame.specs.declared.refusals.Refusal.TheVariants.{NoHomography, Singular, PageShort, Unprintable, Malformed, KeysFall, Unscored, RectangleWrong, BooksDiffer}
 
--- a verdict from its number
-pub refused_is : (n : ℕ) → (n ≡ 0 → ⊥) → D.Refused n ≡ verdict_of n
-unfolding verdict_of
-refused_is zero h = absurd (h refl)
-refused_is (suc n) h = refl
+module _ {A : Type 0} (v : A) where
+  -- the first test that holds gives its refusal, one that fails leaves the rest, and with none left the value is given
+  pub answer_first : (r : Refusal) (t : Bool) (l : List Check) → t ≡ true → Err r ≡ answer_for (check r t ∷ l) v
+  unfolding answer_for
+  answer_first r t l e = rw e
 
-pub accepted_is : (n : ℕ) → n ≡ 0 → D.Accepted ≡ verdict_of n
-unfolding verdict_of
-accepted_is n e = rw e
+  pub answer_next : {x : Result A Refusal} (r : Refusal) (t : Bool) (l : List Check) → t ≡ false → x ≡ answer_for l v → x ≡ answer_for (check r t ∷ l) v
+  unfolding answer_for
+  answer_next r t l e h = rw (e, h)
 
-module _ (tests : List Check) where
-  -- refused by a number
-  pub verdict_refused : (n : ℕ) → lowest_of tests ≡ suc n → D.Refused (suc n) ≡ verdict_of (lowest_of tests)
-  unfolding verdict_of
-  verdict_refused n e = rw e
+  pub answer_none : Ok v ≡ answer_for [] v
+  unfolding answer_for
+  answer_none = refl
 
-  pub number_refused : (v n : ℕ) → lowest_of tests ≡ suc n → N.Refused (suc n) ≡ number_for tests v
-  unfolding number_for number_as
-  number_refused v n e = rw e
+  -- its number is that of the tests
+  pub answer_number : (l : List Check) → number_of (answer_for l v) ≡ lowest_of l
+  unfolding answer_for lowest_of
+  answer_number [] = refl
+  answer_number (c ∷ l) = go c.holds (answer_number l)
+    where
+      go : (b : Bool) → number_of (answer_for l v) ≡ lowest_of l → number_of (cond b (Err c.refusal) (answer_for l v)) ≡ cond b (number c.refusal) (lowest_of l)
+      go true h = refl
+      go false h = h
 
-  pub number_given : (v n : ℕ) → n ≡ lowest_of tests → (n ≡ 0 → ⊥) → N.Refused n ≡ number_for tests v
-  number_given v zero e h = absurd (h refl)
-  number_given v (suc n) e h = number_refused v n (sym e)
+-- ---- a refusal, and an answer without a value, is told by its number
 
-  pub framed_refused : (f : FrameSpec) (n : ℕ) → lowest_of tests ≡ suc n → F.Refused (suc n) ≡ framed_for tests f
-  unfolding framed_for framed_as
-  framed_refused f n e = rw e
+pub positive : (r : Refusal) → 1 ≤ number r
+positive FrameOutside = omega arith
+positive CaptureWrong = omega arith
+positive AreaShort = omega arith
+positive CanonicalWrong = omega arith
+positive NoLayout = omega arith
+positive CaptureSmall = omega arith
+positive FewCandidates = omega arith
+positive SharedCandidate = omega arith
+positive Crooked = omega arith
+positive NoHomography = omega arith
+positive Singular = omega arith
+positive PageShort = omega arith
+positive Unprintable = omega arith
+positive Malformed = omega arith
+positive KeysFall = omega arith
+positive Unscored = omega arith
+positive RectangleWrong = omega arith
+positive BooksDiffer = omega arith
 
-  -- accepted
-  pub verdict_accepted : lowest_of tests ≡ 0 → D.Accepted ≡ verdict_of (lowest_of tests)
-  verdict_accepted e = accepted_is _ e
+abbrev of_number : ℕ → Refusal
+of_number n =
+    cond (eqb n 1) FrameOutside (
+    cond (eqb n 2) CaptureWrong (
+    cond (eqb n 3) AreaShort (
+    cond (eqb n 4) CanonicalWrong (
+    cond (eqb n 5) NoLayout (
+    cond (eqb n 6) CaptureSmall (
+    cond (eqb n 7) FewCandidates (
+    cond (eqb n 8) SharedCandidate (
+    cond (eqb n 9) Crooked (
+    cond (eqb n 10) NoHomography (
+    cond (eqb n 11) Singular (
+    cond (eqb n 12) PageShort (
+    cond (eqb n 13) Unprintable (
+    cond (eqb n 14) Malformed (
+    cond (eqb n 15) KeysFall (
+    cond (eqb n 16) Unscored (
+    cond (eqb n 17) RectangleWrong BooksDiffer
+    ))))))))))))))))
 
-  pub number_accepted : (v : ℕ) → lowest_of tests ≡ 0 → N.Is v ≡ number_for tests v
-  unfolding number_for number_as
-  number_accepted v e = rw e
+of_number_number : (r : Refusal) → of_number (number r) ≡ r
+of_number_number FrameOutside = refl
+of_number_number CaptureWrong = refl
+of_number_number AreaShort = refl
+of_number_number CanonicalWrong = refl
+of_number_number NoLayout = refl
+of_number_number CaptureSmall = refl
+of_number_number FewCandidates = refl
+of_number_number SharedCandidate = refl
+of_number_number Crooked = refl
+of_number_number NoHomography = refl
+of_number_number Singular = refl
+of_number_number PageShort = refl
+of_number_number Unprintable = refl
+of_number_number Malformed = refl
+of_number_number KeysFall = refl
+of_number_number Unscored = refl
+of_number_number RectangleWrong = refl
+of_number_number BooksDiffer = refl
 
-  pub framed_accepted : (f : FrameSpec) → lowest_of tests ≡ 0 → F.Is f ≡ framed_for tests f
-  unfolding framed_for framed_as
-  framed_accepted f e = rw e
+pub number_injective : (r s : Refusal) → number r ≡ number s → r ≡ s
+number_injective r s e = sym (of_number_number r) ∙ ap of_number e ∙ of_number_number s
 
--- an answer's number is that of its tests
-pub verdict_number : (n : ℕ) → number_of (verdict_of n) ≡ n
-unfolding number_of verdict_of
-verdict_number zero = refl
-verdict_number (suc n) = refl
+pub same_refusal : {a b : Result ⊤ Refusal} → number_of a ≡ number_of b → a ≡ b
+same_refusal {a} {b} e = go a b e
+  where
+    go : (a b : Result ⊤ Refusal) → number_of a ≡ number_of b → a ≡ b
+    go (Ok v) (Ok w) e = refl
+    go (Ok v) (Err s) e = let p = positive s in absurd (omega arith)
+    go (Err r) (Ok w) e = let p = positive r in absurd (omega arith)
+    go (Err r) (Err s) e = ap Err (number_injective r s e)
 
-pub accepted_zero : {v : Verdict} {n : ℕ} → v ≡ verdict_of n → v ≡ D.Accepted → n ≡ 0
-unfolding number_of
-accepted_zero {v} {n} g e = sym (verdict_number n) ∙ ap number_of (sym g ∙ e)
-
-pub number_number : (n v : ℕ) → number_refusal (number_as n v) ≡ n
-unfolding number_refusal number_as
-number_number zero v = refl
-number_number (suc n) v = refl
-
-pub framed_number : (n : ℕ) (f : FrameSpec) → framed_refusal (framed_as n f) ≡ n
-unfolding framed_refusal framed_as
-framed_number zero f = refl
-framed_number (suc n) f = refl
-
--- and its value, where it is accepted, the call's
-pub number_value_lem : (n v : ℕ) → n ≡ 0 → number_value (number_as n v) ≡ v
-unfolding number_value number_as
-number_value_lem n v e = rw e
-
-pub framed_value_lem : (n : ℕ) (f : FrameSpec) → n ≡ 0 → framed_value (framed_as n f) ≡ f
-unfolding framed_value framed_as
-framed_value_lem n f e = rw e
+-- an answer is accepted where its number is 0
+pub accepted_zero : {A : Type 0} {a : Result A Refusal} {v : A} → a ≡ Ok v → number_of a ≡ 0
+accepted_zero e = ap number_of e

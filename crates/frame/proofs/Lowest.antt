@@ -7,10 +7,11 @@ use Prim.Native.Nat.{ℕ, ◌≤◌, ◌<◌}
 use native.Mathlib.Nat.{lt_of_not-le, le_antisymm, le_of_suc-le-suc}
 use native.Mathlib.Omega.{arith}
 use lib.Dec.{T}
-use Rattle.frame.specs.Refusals.{Lowest, Check, check, Tested, lowest_of, frame_tests, side_tests, capture_tests}
+use Rattle.frame.specs.Refusals.{number, Lowest, Check, check, Tested, lowest_of, frame_tests, side_tests, capture_tests}
 use Rattle.frame.specs.Image.{Image}
 use Rattle.frame.specs.declared.FrameSpec.{FrameSpec}
 use Rattle.frame.specs.Refusals.Lowest.{accepted, refused}
+use Rattle.frame.specs.declared.refusals.Refusal.{Refusal}
 
 module _ (C : ℕ → Type 0) (positive : (k : ℕ) → C k → 1 ≤ k) where
   -- a refusal's number has its condition, and no lower one has
@@ -41,24 +42,24 @@ module _ (C : ℕ → Type 0) (positive : (k : ℕ) → C k → 1 ≤ k) where
 
 abbrev pub Rising : ℕ → List Check → Type 0
 Rising lo [] = Unit {0}
-Rising lo (c ∷ l) = (lo < c.number) × Rising c.number l
+Rising lo (c ∷ l) = (lo < number c.refusal) × Rising (number c.refusal) l
 
 pub above : (lo n : ℕ) (l : List Check) → Rising lo l → Tested n l → lo < n
 above lo n [] h t = absurd t
-above lo n (c ∷ l) h (inl t) = let x : lo < c.number = h.0 in let e : n ≡ c.number = t.0 in omega arith
-above lo n (c ∷ l) h (inr k) = let x : lo < c.number = h.0 in let y : c.number < n = above c.number n l h.1 k in omega arith
+above lo n (c ∷ l) h (inl t) = let x : lo < number c.refusal = h.0 in let e : n ≡ number c.refusal = t.0 in omega arith
+above lo n (c ∷ l) h (inr k) = let x : lo < number c.refusal = h.0 in let y : number c.refusal < n = above (number c.refusal) n l h.1 k in omega arith
 
 pub lowest_of_lem : (lo : ℕ) (l : List Check) → Rising lo l → Lowest (λ n. Tested n l) (lowest_of l)
 unfolding lowest_of
 lowest_of_lem lo [] h = accepted refl (λ k t. t)
-lowest_of_lem lo (c ∷ l) h = go c.holds refl (lowest_of_lem c.number l h.1)
+lowest_of_lem lo (c ∷ l) h = go c.holds refl (lowest_of_lem (number c.refusal) l h.1)
   where
-    go : (b : Bool) → c.holds ≡ b → Lowest (λ n. Tested n l) (lowest_of l) → Lowest (λ n. Tested n (c ∷ l)) (cond b c.number (lowest_of l))
+    go : (b : Bool) → c.holds ≡ b → Lowest (λ n. Tested n l) (lowest_of l) → Lowest (λ n. Tested n (c ∷ l)) (cond b (number c.refusal) (lowest_of l))
     go true e r = refused (inl (refl, subst T (sym e) tt)) lower
       where
-        lower : (k : ℕ) → k < c.number → Tested k (c ∷ l) → ⊥
-        lower k g (inl t) = let x : k ≡ c.number = t.0 in omega arith
-        lower k g (inr p) = let y : c.number < k = above c.number k l h.1 p in omega arith
+        lower : (k : ℕ) → k < number c.refusal → Tested k (c ∷ l) → ⊥
+        lower k g (inl t) = let x : k ≡ number c.refusal = t.0 in omega arith
+        lower k g (inr p) = let y : number c.refusal < k = above (number c.refusal) k l h.1 p in omega arith
     go false e (accepted p f) = accepted p neither
       where
         neither : (k : ℕ) → Tested k (c ∷ l) → ⊥
@@ -80,13 +81,13 @@ none_tested l r e = go (lowest_of_lem 0 l r)
 
 -- ---- a call works its tests off one after another: the first that holds ends them, one that fails leaves the rest
 
-pub lowest_first : (n : ℕ) (t : Bool) (l : List Check) → t ≡ true → lowest_of (check n t ∷ l) ≡ n
+pub lowest_first : (r : Refusal) (t : Bool) (l : List Check) → t ≡ true → lowest_of (check r t ∷ l) ≡ number r
 unfolding lowest_of
-lowest_first n t l e = rw e
+lowest_first r t l e = rw e
 
-pub lowest_next : (n : ℕ) (t : Bool) (l : List Check) → t ≡ false → lowest_of (check n t ∷ l) ≡ lowest_of l
+pub lowest_next : (r : Refusal) (t : Bool) (l : List Check) → t ≡ false → lowest_of (check r t ∷ l) ≡ lowest_of l
 unfolding lowest_of
-lowest_next n t l e = rw e
+lowest_next r t l e = rw e
 
 pub lowest_none : lowest_of [] ≡ 0
 unfolding lowest_of
@@ -102,7 +103,7 @@ module _ (q : List Check) where
   pub lowest_before : (p : List Check) (n : ℕ) → n ≡ lowest_of p → (n ≡ 0 → ⊥) → n ≡ lowest_of (p ++ q)
   unfolding lowest_of
   lowest_before [] n e h = absurd (h e)
-  lowest_before (c ∷ p) n e h = before_step c.holds c.number (lowest_of p) n p (λ d. lowest_before p n d h) e
+  lowest_before (c ∷ p) n e h = before_step c.holds (number c.refusal) (lowest_of p) n p (λ d. lowest_before p n d h) e
 
   past_step : (b : Bool) (m k j : ℕ) → 0 < m → (k ≡ 0 → j ≡ lowest_of q) → cond b m k ≡ 0 → cond b m j ≡ lowest_of q
   past_step true m k j h f d = absurd (omega arith)
@@ -112,8 +113,8 @@ module _ (q : List Check) where
   unfolding lowest_of
   lowest_past lo [] r e = refl
   lowest_past lo (c ∷ p) r e =
-      let x : lo < c.number = r.0 in
-      past_step c.holds c.number (lowest_of p) (lowest_of (p ++ q)) (omega arith) (lowest_past c.number p r.1) e
+      let x : lo < number c.refusal = r.0 in
+      past_step c.holds (number c.refusal) (lowest_of p) (lowest_of (p ++ q)) (omega arith) (lowest_past (number c.refusal) p r.1) e
 
 -- ---- the tests of this crate's definitions rise, so that a refusal is the lowest number by meaning
 

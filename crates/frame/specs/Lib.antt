@@ -3,4 +3,3 @@ pub mod Image
 pub mod Frame
 pub mod Refusals
 pub mod Limits
-pub mod Answers

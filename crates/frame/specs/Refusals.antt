@@ -1,20 +1,36 @@
 -- Limits and refusals (requirements, 1.5, 1.6 and 2): what every layer shares. Assumes nothing.
-use Rattle.std.specs.Prelude.{ℕ, zero, suc, ◌*◌, ◌<◌, ◌≡◌, Bool, cond, not, ◌&&◌, ◌||◌, List, [], ◌∷◌, ◌⊎◌, T, leb, ltb, eqb, length}
+use Rattle.std.specs.Prelude.{ℕ, ◌*◌, ◌<◌, ◌≡◌, Bool, cond, not, ◌&&◌, ◌||◌, List, [], ◌∷◌, ◌⊎◌, T, leb, ltb, eqb, length, Result, Ok, Err}
 use Rattle.frame.specs.Image.{Image}
 use Rattle.frame.specs.declared.FrameSpec.{FrameSpec}
-use Rattle.frame.specs.declared.Verdict.{Verdict}
-use Rattle.frame.specs.declared.Verdict.TheVariants.{Accepted, Refused}
+use Rattle.frame.specs.declared.refusals.Refusal.{Refusal}
+use Rattle.frame.specs.declared.refusals.Refusal.TheVariants.{FrameOutside, CaptureWrong, AreaShort, CanonicalWrong, NoLayout, CaptureSmall, FewCandidates, SharedCandidate, Crooked}
+use Rattle.frame.specs.declared.refusals.Refusal.TheVariants.{NoHomography, Singular, PageShort, Unprintable, Malformed, KeysFall, Unscored, RectangleWrong, BooksDiffer}
 
--- ---- the number of an answer: 0 when accepted
+-- ---- the number of a refusal, and of an answer: 0 when accepted
 
-unfoldable pub number_of : Verdict → ℕ
-number_of Accepted = 0
-number_of (Refused n) = n
+abbrev pub number : Refusal → ℕ
+number FrameOutside = 1
+number CaptureWrong = 2
+number AreaShort = 3
+number CanonicalWrong = 4
+number NoLayout = 5
+number CaptureSmall = 6
+number FewCandidates = 7
+number SharedCandidate = 8
+number Crooked = 9
+number NoHomography = 10
+number Singular = 11
+number PageShort = 12
+number Unprintable = 13
+number Malformed = 14
+number KeysFall = 15
+number Unscored = 16
+number RectangleWrong = 17
+number BooksDiffer = 18
 
--- .. and the answer of a number
-unfoldable pub verdict_of : ℕ → Verdict
-verdict_of zero = Accepted
-verdict_of (suc n) = Refused (suc n)
+abbrev pub number_of : {A : Type 0} → Result A Refusal → ℕ
+number_of (Ok v) = 0
+number_of (Err r) = number r
 
 -- [2.12] the lowest number that applies is given: n is the lowest number whose condition C n holds, or 0 where no
 -- condition holds
@@ -22,23 +38,28 @@ pub data Lowest (C : ℕ → Type 0) (n : ℕ) : Type 0 where
   accepted : n ≡ 0 → ((k : ℕ) → C k → ⊥) → Lowest C n
   refused : C n → ((k : ℕ) → k < n → C k → ⊥) → Lowest C n
 
--- a refusal number and the test that calls for it
+-- a refusal and the test that calls for it
 pub record Check : Type 0 where
-  pub number : ℕ
+  pub refusal : Refusal
   pub holds : Bool
 
-abbrev pub check : ℕ → Bool → Check
-check n b = record { number = n; holds = b }
+abbrev pub check : Refusal → Bool → Check
+check r b = record { refusal = r; holds = b }
 
 -- one of the tests calls for n
 abbrev pub Tested : ℕ → List Check → Type 0
 Tested n [] = ⊥
-Tested n (c ∷ l) = ((n ≡ c.number) × T c.holds) ⊎ Tested n l
+Tested n (c ∷ l) = ((n ≡ number c.refusal) × T c.holds) ⊎ Tested n l
 
 -- the number of the first test of a list that holds, or 0: the lowest, in a list whose numbers rise
 unfoldable pub lowest_of : List Check → ℕ
 lowest_of [] = 0
-lowest_of (c ∷ l) = cond c.holds c.number (lowest_of l)
+lowest_of (c ∷ l) = cond c.holds (number c.refusal) (lowest_of l)
+
+-- [2.16] the answer of a call with these tests: the refusal of the first that holds, and else the value
+unfoldable pub answer_for : {A : Type 0} → List Check → A → Result A Refusal
+answer_for [] v = Ok v
+answer_for (c ∷ l) v = cond c.holds (Err c.refusal) (answer_for l v)
 
 -- ---- limits
 
@@ -68,12 +89,12 @@ capture_small img = ltb img.w 32 || ltb img.h 32
 
 -- `cols`, `rows`, `frame_spec`, `FrameSpec::new`
 unfoldable pub frame_tests : FrameSpec → List Check
-frame_tests f = check 1 (frame_outside f) ∷ []
+frame_tests f = check FrameOutside (frame_outside f) ∷ []
 
 -- `Radial::new`: [2.13] lone w and h are capture sides
 unfoldable pub side_tests : ℕ → ℕ → List Check
-side_tests w h = check 2 (sides_wrong w h) ∷ []
+side_tests w h = check CaptureWrong (sides_wrong w h) ∷ []
 
 -- `bilinear`
 unfoldable pub capture_tests : Image → List Check
-capture_tests img = check 2 (capture_wrong img) ∷ []
+capture_tests img = check CaptureWrong (capture_wrong img) ∷ []

@@ -7,7 +7,6 @@ ghost use Rattle.frame.specs.Refusals.{side, cell_held, frame_outside, sides_wro
 ghost use Rattle.frame.specs.Limits.{FrameHeld};
 
 use super::{FrameSpec, Rgb};
-use base::{min, saturating_sub};
 
 // ---- tests
 
@@ -62,14 +61,14 @@ pub fn cols(frame: FrameSpec) -> usize
     requires { FrameHeld frame }
     ensures { result ≡ cols frame }
 {
-    saturating_sub(frame.width, 2 * frame.margin) / frame.cell
+    frame.width.saturating_sub(2 * frame.margin) / frame.cell
 }
 
 pub fn rows(frame: FrameSpec) -> usize
     requires { FrameHeld frame }
     ensures { result ≡ rows frame }
 {
-    saturating_sub(frame.height, 2 * frame.margin) / frame.cell
+    frame.height.saturating_sub(2 * frame.margin) / frame.cell
 }
 
 // The Rust's pair (x, y) of a cell's top left pixel.
@@ -138,8 +137,8 @@ pub fn fill_rect(
         ≡ 3 * w * h) }
     ensures { bytes.new ≡ with_rect (image w h bytes.old) x0 y0 width height c }
 {
-    let x1 = min(x0 + width, w);
-    let y1 = min(y0 + height, h);
+    let x1 = (x0 + width).min(w);
+    let y1 = (y0 + height).min(h);
     for y in y0..y1 {
         fill_row(bytes, w, h, x0, x1, y, c);
     }

@@ -3,11 +3,13 @@
 
 mod constants;
 pub mod internal;
+mod refusals;
 
 ghost use Rattle.std.specs.Prelude.{◌≡◌};
 ghost use Rattle.frame.specs.Frame.{new_frame, cols, rows};
-ghost use Rattle.frame.specs.Refusals.{frame_tests};
-ghost use Rattle.frame.specs.Answers.{framed_for, number_for};
+ghost use Rattle.frame.specs.Refusals.{frame_tests, answer_for};
+
+pub use refusals::Refusal;
 
 #[derive(Clone, Copy)]
 pub struct FrameSpec {
@@ -49,25 +51,6 @@ pub const WHITE: Rgb = Rgb {
     b: 255,
 };
 
-// Answers: what is asked for, or the number of a refusal (requirements, 2).
-#[derive(Clone, Copy)]
-pub enum Verdict {
-    Accepted,
-    Refused(u32),
-}
-
-#[derive(Clone, Copy)]
-pub enum Number {
-    Is(usize),
-    Refused(u32),
-}
-
-#[derive(Clone, Copy)]
-pub enum Framed {
-    Is(FrameSpec),
-    Refused(u32),
-}
-
 impl FrameSpec {
     // Calibration strip: one row at the very top.
     pub const CALIB_ROWS: usize = 1;
@@ -75,38 +58,38 @@ impl FrameSpec {
     pub const HEADER_ROWS: usize = 2;
 
     // A frame whose margin is one cell.
-    pub fn new(width: usize, height: usize, cell: usize) -> Framed
-        ensures { result ≡ framed_for (frame_tests (new_frame width height cell)) (new_frame width height cell) }
+    pub fn new(width: usize, height: usize, cell: usize) -> Result<FrameSpec, Refusal>
+        ensures { result ≡ answer_for (frame_tests (new_frame width height cell)) (new_frame width height cell) }
     {
         let frame = FrameSpec {
-            width: width,
-            height: height,
-            cell: cell,
+            width,
+            height,
+            cell,
             margin: cell,
         };
         if internal::frame_outside(frame) {
-            return Framed::Refused(1);
+            return Err(Refusal::FrameOutside);
         }
-        Framed::Is(frame)
+        Ok(frame)
     }
 
     // The number of cells in a row.
-    pub fn cols(self) -> Number
-        ensures { result ≡ number_for (frame_tests self) (cols self) }
+    pub fn cols(self) -> Result<usize, Refusal>
+        ensures { result ≡ answer_for (frame_tests self) (cols self) }
     {
         if internal::frame_outside(self) {
-            return Number::Refused(1);
+            return Err(Refusal::FrameOutside);
         }
-        Number::Is(internal::cols(self))
+        Ok(internal::cols(self))
     }
 
     // The number of cells in a column.
-    pub fn rows(self) -> Number
-        ensures { result ≡ number_for (frame_tests self) (rows self) }
+    pub fn rows(self) -> Result<usize, Refusal>
+        ensures { result ≡ answer_for (frame_tests self) (rows self) }
     {
         if internal::frame_outside(self) {
-            return Number::Refused(1);
+            return Err(Refusal::FrameOutside);
         }
-        Number::Is(internal::rows(self))
+        Ok(internal::rows(self))
     }
 }

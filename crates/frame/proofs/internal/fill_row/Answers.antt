@@ -2,7 +2,7 @@
 use Prim.Native.Nat.{◌+◌, ◌*◌, ◌-◌}
 use mathlib.Core.Path.{◌≡◌, refl, ap, ◌∙◌}
 use native.Mathlib.Omega.{arith}
-use lib.ListN.{length, set}
+use lib.ListN.{length}
 use Rattle.frame.specs.Image.{image, with_rect}
 use Rattle.frame.proofs.Rectangles.{length_rect, rect_empty, row_step}
 use Rattle.frame.proofs.internal.fill_row.Goals as goal
