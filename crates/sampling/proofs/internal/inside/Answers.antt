@@ -6,12 +6,6 @@ use Rattle.float.specs.Floats.{f64}
 use Rattle.sampling.specs.Reading.{inside}
 use Rattle.sampling.proofs.internal.inside.Goals as goal
 
-pub to_f64-requires : goal.to_f64-requires
-to_f64-requires c = omega arith
-
-pub to_f64-requires-2 : goal.to_f64-requires-2
-to_f64-requires-2 c = omega arith
-
 pub returns : goal.returns
 unfolding inside of_bits of_int
 returns c =
