@@ -1,6 +1,5 @@
 -- `sampling::internal::inside` meets its contract. Assumes nothing.
 use mathlib.Core.Bool.{◌&&◌}
-use native.Mathlib.Omega.{arith}
 use lib.Ieee.{lt, le, of_bits, of_int}
 use Rattle.float.specs.Floats.{f64}
 use Rattle.sampling.specs.Reading.{inside}

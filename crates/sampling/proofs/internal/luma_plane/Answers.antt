@@ -2,8 +2,7 @@
 use native.Mathlib.Omega.{arith}
 use mathlib.Core.Path.{refl}
 use lib.ListN.{length-set}
-use Rattle.base.proofs.Plane.{filled_begin, filled_step, filled_end}
-use Rattle.base.proofs.Arith.{product_le}
+use Rattle.base.proofs.Plane.{filled_begin, filled_step}
 use Rattle.sampling.proofs.internal.luma_plane.Goals as goal
 
 pub loop-i-init : goal.loop-i-init
