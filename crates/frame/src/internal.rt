@@ -2,9 +2,7 @@
 // the functions behind the public ones.
 ghost use Rattle.std.specs.Prelude.{◌≡◌, ℕ, ◌+◌, ◌*◌, ◌-◌, ◌^◌, ◌≤◌, ◌<◌, List, length};
 ghost use Rattle.frame.specs.Image.{image, px, with_pixel, with_rect, outside};
-ghost use Rattle.frame.specs.Frame.{cols, rows, cell_x, cell_y};
 ghost use Rattle.frame.specs.Refusals.{side, cell_held, frame_outside, sides_wrong, capture_wrong, capture_small};
-ghost use Rattle.frame.specs.Limits.{FrameHeld};
 
 use super::{FrameSpec, Rgb};
 
@@ -53,39 +51,6 @@ pub fn capture_small(w: usize, h: usize) -> bool
     ensures { (l : List ℕ) → result ≡ capture_small (image w h l) }
 {
     (w < 32) | (h < 32)
-}
-
-// ---- the frame's cells
-
-pub fn cols(frame: FrameSpec) -> usize
-    requires { FrameHeld frame }
-    ensures { result ≡ cols frame }
-{
-    frame.width.saturating_sub(2 * frame.margin) / frame.cell
-}
-
-pub fn rows(frame: FrameSpec) -> usize
-    requires { FrameHeld frame }
-    ensures { result ≡ rows frame }
-{
-    frame.height.saturating_sub(2 * frame.margin) / frame.cell
-}
-
-// The Rust's pair (x, y) of a cell's top left pixel.
-#[derive(Clone, Copy)]
-pub struct Origin {
-    pub x: usize,
-    pub y: usize,
-}
-
-pub fn cell_origin(frame: FrameSpec, col: usize, row: usize) -> Origin
-    requires { FrameHeld frame × (col ≤ 4096) × (row ≤ 4096) }
-    ensures { (result.x ≡ cell_x frame col) × (result.y ≡ cell_y frame row) }
-{
-    Origin {
-        x: frame.margin + col * frame.cell,
-        y: frame.margin + row * frame.cell,
-    }
 }
 
 // ---- pixels

@@ -1,6 +1,7 @@
 // The frame description, pictures, and what every layer shares of refusals and answers.
 #![tactic(auto)]
 
+mod checked;
 mod constants;
 pub mod internal;
 mod refusals;
@@ -9,6 +10,7 @@ ghost use Rattle.std.specs.Prelude.{◌≡◌};
 ghost use Rattle.frame.specs.Frame.{new_frame, cols, rows};
 ghost use Rattle.frame.specs.Refusals.{frame_tests, answer_for};
 
+pub use checked::{CheckedFrame, Origin};
 pub use refusals::Refusal;
 
 #[derive(Clone, Copy)]
@@ -67,29 +69,20 @@ impl FrameSpec {
             cell,
             margin: cell,
         };
-        if internal::frame_outside(frame) {
-            return Err(Refusal::FrameOutside);
-        }
-        Ok(frame)
+        Ok(CheckedFrame::new(frame)?.spec)
     }
 
     // The number of cells in a row.
     pub fn cols(self) -> Result<usize, Refusal>
         ensures { result ≡ answer_for (frame_tests self) (cols self) }
     {
-        if internal::frame_outside(self) {
-            return Err(Refusal::FrameOutside);
-        }
-        Ok(internal::cols(self))
+        Ok(CheckedFrame::new(self)?.cols())
     }
 
     // The number of cells in a column.
     pub fn rows(self) -> Result<usize, Refusal>
         ensures { result ≡ answer_for (frame_tests self) (rows self) }
     {
-        if internal::frame_outside(self) {
-            return Err(Refusal::FrameOutside);
-        }
-        Ok(internal::rows(self))
+        Ok(CheckedFrame::new(self)?.rows())
     }
 }

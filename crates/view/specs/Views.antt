@@ -1,6 +1,7 @@
 -- Reading a pixel through the view (requirements, 16.9). Assumes nothing.
 use Rattle.std.specs.Prelude.{ℕ, Bool, cond, ◌&&◌, ltb, Option, Some, None, Result}
-use Rattle.frame.specs.Image.{Image, px}
+use Rattle.frame.specs.Image.{Image, image, px}
+use Rattle.view.specs.declared.RgbImage.{RgbImage}
 use Rattle.frame.specs.Refusals.{answer_for, capture_tests}
 use Rattle.frame.specs.declared.Rgb.{Rgb}
 use Rattle.frame.specs.declared.refusals.Refusal.{Refusal}
@@ -13,3 +14,7 @@ inside img x y = ltb x img.w && ltb y img.h
 -- is such a pixel
 unfoldable pub pixel_of : Image → ℕ → ℕ → Result (Option Rgb) Refusal
 pixel_of img x y = answer_for (capture_tests img) (cond (inside img x y) (Some (px img x y)) None)
+
+-- the picture that a view shows
+abbrev pub picture : RgbImage → Image
+picture v = image v.w v.h v.«data».now

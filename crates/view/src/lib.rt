@@ -4,10 +4,15 @@
 
 pub mod internal; // internal.rt: making a view and reading through it
 
-// The Rust's RgbImage, with the bytes lent.
+ghost use Rattle.std.specs.Prelude.{◌≡◌};
+ghost use Rattle.frame.specs.Image.{image};
+ghost use Rattle.frame.specs.Limits.{CaptureHeld};
+
+// The Rust's RgbImage, with the bytes lent, of a picture within its limits.
 #[derive(Clone, Copy)]
 pub struct RgbImage<'a> {
     pub w: usize,
     pub h: usize,
     pub data: &'a [u8],
+    pub ghost held: { CaptureHeld (image w h «data».now) },
 }

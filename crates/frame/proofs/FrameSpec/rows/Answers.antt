@@ -1,18 +1,20 @@
--- `frame::FrameSpec::rows` meets its contract. Assumes nothing.
+-- `FrameSpec::rows` meets its contract. Assumes nothing.
 use mathlib.Core.Path.{ap, ◌∙◌}
 use Rattle.std.specs.Prelude.{Ok}
+use Rattle.std.proofs.lemmas.Result.{err_from_is_err_and}
+use Rattle.frame.specs.Frame.{rows}
 use Rattle.frame.specs.Refusals.{frame_tests}
 use Rattle.frame.proofs.Given.{answer_first, answer_next, answer_none}
-use Rattle.frame.proofs.Held.{frame_held}
 use Rattle.frame.proofs.FrameSpec.rows.Goals as goal
 
-pub returns-then-frame_outside : goal.returns-then-frame_outside
+pub returns-in_err-new : goal.returns-in_err-new
 unfolding frame_tests
-returns-then-frame_outside c = answer_first _ _ _ _ (cc)
-
-pub rows-requires : goal.rows-requires
-rows-requires c = frame_held _ (cc)
+returns-in_err-new c =
+    let p = err_from_is_err_and c.from_residual.result c.from_residual.ensures.1 in
+    rw (p.1, p.2, c.in_err-new.ensures.1) (answer_first _ _ _ _ c.in_err-new.ensures.0)
 
 pub returns : goal.returns
 unfolding frame_tests
-returns c = ap Ok c.rows.ensures ∙ answer_next _ _ _ _ (cc) (answer_none _)
+returns c =
+    ap Ok (c.rows.ensures ∙ ap rows c.in_ok-new.ensures.1)
+    ∙ answer_next _ _ _ _ c.in_ok-new.ensures.0 (answer_none _)
