@@ -1,12 +1,11 @@
 // Layout of the markers in a frame within its limits: what the crates above need behind the public
 // functions.
 ghost use Rattle.std.specs.Prelude.{◌≡◌, ◌≤◌};
-ghost use Rattle.frame.specs.Limits.{FrameHeld};
 ghost use Rattle.markers.specs.Layout.{marker_size, quiet_zone, margin_for, marker, no_layout, origins};
 ghost use Rattle.markers.specs.Layout.{layout_of, moved, marker_centers};
 
 use super::{MARKER_MAX_PX, MARKER_MIN_PX};
-use frame::{FrameSpec, Point, Quad};
+use frame::{CheckedFrame, Point, Quad};
 
 pub fn marker_size(cell: usize) -> usize
     requires { cell ≤ 512 }
@@ -30,34 +29,34 @@ pub fn margin_for(cell: usize) -> usize
 }
 
 // The side of the frame's markers: 0 where the margin does not hold the quiet zones.
-pub fn marker(frame: FrameSpec) -> usize
-    requires { FrameHeld frame }
-    ensures { result ≡ marker frame }
+pub fn marker(frame: CheckedFrame) -> usize
+    ensures { result ≡ marker frame.spec }
 {
-    frame.margin.saturating_sub(2 * quiet_zone(frame.cell))
+    frame
+        .spec
+        .margin
+        .saturating_sub(2 * quiet_zone(frame.spec.cell))
 }
 
 // Refusal 5.
-pub fn no_layout(frame: FrameSpec) -> bool
-    requires { FrameHeld frame }
-    ensures { result ≡ no_layout frame }
+pub fn no_layout(frame: CheckedFrame) -> bool
+    ensures { result ≡ no_layout frame.spec }
 {
-    let least = 4 * frame.margin;
-    (frame.margin < 2 * quiet_zone(frame.cell))
+    let least = 4 * frame.spec.margin;
+    (frame.spec.margin < 2 * quiet_zone(frame.spec.cell))
         | (marker(frame) < 24)
-        | (frame.width < least)
-        | (frame.height < least)
+        | (frame.spec.width < least)
+        | (frame.spec.height < least)
 }
 
 // The markers' top left corners.
-pub fn origins(frame: FrameSpec) -> Quad
-    requires { FrameHeld frame }
-    ensures { result ≡ origins frame }
+pub fn origins(frame: CheckedFrame) -> Quad
+    ensures { result ≡ origins frame.spec }
 {
     let m = marker(frame) as f64;
-    let q = quiet_zone(frame.cell) as f64;
-    let far_x = frame.width as f64 - q - m;
-    let far_y = frame.height as f64 - q - m;
+    let q = quiet_zone(frame.spec.cell) as f64;
+    let far_x = frame.spec.width as f64 - q - m;
+    let far_y = frame.spec.height as f64 - q - m;
     Quad {
         tl: Point { x: q, y: q },
         tr: Point { x: far_x, y: q },
@@ -73,9 +72,8 @@ pub struct Markers {
     pub origins: Quad,
 }
 
-pub fn marker_layout(frame: FrameSpec) -> Option<Markers>
-    requires { FrameHeld frame }
-    ensures { result ≡ layout_of frame }
+pub fn marker_layout(frame: CheckedFrame) -> Option<Markers>
+    ensures { result ≡ layout_of frame.spec }
 {
     if no_layout(frame) {
         return None;
@@ -96,9 +94,8 @@ fn moved(d: f64, p: Point) -> Point
 }
 
 // The markers' centres.
-pub fn centers(frame: FrameSpec) -> Quad
-    requires { FrameHeld frame }
-    ensures { result ≡ marker_centers frame }
+pub fn centers(frame: CheckedFrame) -> Quad
+    ensures { result ≡ marker_centers frame.spec }
 {
     let half = marker(frame) as f64 / 2.0;
     let o = origins(frame);

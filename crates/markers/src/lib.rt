@@ -12,7 +12,7 @@ ghost use Rattle.frame.specs.Refusals.{number_of, answer_for, frame_tests};
 ghost use Rattle.markers.specs.Layout.{marker_size, quiet_zone, margin_for, frame_spec, marker_centers};
 ghost use Rattle.markers.specs.Promises.{cell_tests, layout_tests, Stamping};
 
-use frame::{FrameSpec, Quad, Refusal};
+use frame::{CheckedFrame, FrameSpec, Quad, Refusal};
 
 // The marker is 6 units on a side.
 pub const MARKER_UNITS: f64 = 6.0;
@@ -62,19 +62,14 @@ pub fn frame_spec(width: usize, height: usize, cell: usize) -> Result<FrameSpec,
         cell,
         margin,
     };
-    if frame::internal::frame_outside(frame) {
-        return Err(Refusal::FrameOutside);
-    }
-    Ok(frame)
+    Ok(CheckedFrame::new(frame)?.spec)
 }
 
 // Canonical centres of the four markers.
 pub fn marker_centers(frame: FrameSpec) -> Result<Quad, Refusal>
     ensures { result ≡ answer_for (layout_tests frame) (marker_centers frame) }
 {
-    if frame::internal::frame_outside(frame) {
-        return Err(Refusal::FrameOutside);
-    }
+    let frame = CheckedFrame::new(frame)?;
     if internal::no_layout(frame) {
         return Err(Refusal::NoLayout);
     }
@@ -91,14 +86,12 @@ pub fn stamp_fiducials(
 ) -> Result<(), Refusal>
     ensures { Stamping (image w h bytes.old) frame (number_of result) bytes.new }
 {
-    if frame::internal::frame_outside(frame) {
-        return Err(Refusal::FrameOutside);
-    }
+    let frame = CheckedFrame::new(frame)?;
     if frame::internal::capture_wrong(bytes, w, h) {
         return Err(Refusal::CaptureWrong);
     }
     let markers = internal::marker_layout(frame).ok_or(Refusal::NoLayout)?;
-    let quiet = internal::quiet_zone(frame.cell) as f64;
+    let quiet = internal::quiet_zone(frame.spec.cell) as f64;
     stamp::stamp_markers(bytes, w, h, markers.m, quiet, markers.origins);
     Ok(())
 }

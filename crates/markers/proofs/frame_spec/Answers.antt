@@ -44,14 +44,15 @@ returns-in_err-margin c =
     let p = err_from_is_err_and c.from_residual.result c.from_residual.ensures.1 in
     rw (p.1, p.2) (refused _ _ _ _ (sym c.margin_for.ensures ∙ c.in_err-margin.was))
 
-pub returns-then-frame_outside : goal.returns-then-frame_outside
+pub returns-in_err-new : goal.returns-in_err-new
 unfolding frame_tests
-returns-then-frame_outside c =
-    answer_first _ _ _ _
-    (ap frame_outside (sym (given _ _ _ _ (sym c.margin_for.ensures ∙ c.in_ok-margin.was))) ∙ sym c.frame_outside.ensures ∙ c.if-frame_outside.true)
+returns-in_err-new c =
+    let p = err_from_is_err_and c.from_residual-in_err-new.result c.from_residual-in_err-new.ensures.1 in
+    let g = given _ _ _ _ (sym c.margin_for.ensures ∙ c.in_ok-margin.was) in
+    rw (p.1, p.2, c.in_err-new.ensures.1) (answer_first _ _ _ _ (ap frame_outside (sym g) ∙ c.in_err-new.ensures.0))
 
 pub returns : goal.returns
 unfolding frame_tests
 returns c =
     let g = given _ _ _ _ (sym c.margin_for.ensures ∙ c.in_ok-margin.was) in
-    ap Ok g ∙ answer_next _ _ _ _ (ap frame_outside (sym g) ∙ sym c.frame_outside.ensures ∙ c.if-frame_outside.false) (answer_none _)
+    ap Ok (c.in_ok-new.ensures.1 ∙ g) ∙ answer_next _ _ _ _ (ap frame_outside (sym g) ∙ c.in_ok-new.ensures.0) (answer_none _)

@@ -1,25 +1,27 @@
 -- `markers::marker_centers` meets its contract. Assumes nothing.
-use mathlib.Core.Path.{ap, ◌∙◌}
+use mathlib.Core.Path.{sym, ap, ◌∙◌}
 use Rattle.std.specs.Prelude.{Ok}
+use Rattle.std.proofs.lemmas.Result.{err_from_is_err_and}
 use Rattle.frame.proofs.Given.{answer_first, answer_next, answer_none}
-use Rattle.frame.proofs.Held.{frame_held}
+use Rattle.markers.specs.Layout.{no_layout, marker_centers}
 use Rattle.markers.specs.Promises.{layout_tests}
 use Rattle.markers.proofs.marker_centers.Goals as goal
 
-pub returns-then-frame_outside : goal.returns-then-frame_outside
+pub returns-in_err-frame : goal.returns-in_err-frame
 unfolding layout_tests
-returns-then-frame_outside c = answer_first _ _ _ _ (cc)
-
-pub no_layout-requires : goal.no_layout-requires
-no_layout-requires c = frame_held _ (cc)
+returns-in_err-frame c =
+    let p = err_from_is_err_and c.from_residual.result c.from_residual.ensures.1 in
+    rw (p.1, p.2, c.in_err-frame.ensures.1) (answer_first _ _ _ _ c.in_err-frame.ensures.0)
 
 pub returns-then-no_layout : goal.returns-then-no_layout
 unfolding layout_tests
-returns-then-no_layout c = answer_next _ _ _ _ (cc) (answer_first _ _ _ _ (cc))
-
-pub centers-requires : goal.centers-requires
-centers-requires c = frame_held _ (cc)
+returns-then-no_layout c =
+    answer_next _ _ _ _ c.in_ok-frame.ensures.0
+    (answer_first _ _ _ _ (ap no_layout (sym c.in_ok-frame.ensures.1) ∙ sym c.no_layout.ensures ∙ c.if-no_layout.true))
 
 pub returns : goal.returns
 unfolding layout_tests
-returns c = ap Ok c.centers.ensures ∙ answer_next _ _ _ _ (cc) (answer_next _ _ _ _ (cc) (answer_none _))
+returns c =
+    ap Ok (c.centers.ensures ∙ ap marker_centers c.in_ok-frame.ensures.1)
+    ∙ answer_next _ _ _ _ c.in_ok-frame.ensures.0
+    (answer_next _ _ _ _ (ap no_layout (sym c.in_ok-frame.ensures.1) ∙ sym c.no_layout.ensures ∙ c.if-no_layout.false) (answer_none _))

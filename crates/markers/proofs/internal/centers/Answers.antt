@@ -7,7 +7,7 @@ use Rattle.markers.proofs.Sizes.{marker_most}
 use Rattle.markers.proofs.internal.centers.Goals as goal
 
 pub int_to_float-half : goal.int_to_float-half
-int_to_float-half c = held64 _ (omega (arith, marker_most c.args.frame))
+int_to_float-half c = held64 _ (omega (arith, marker_most c.args.frame.spec))
 
 pub returns : goal.returns
 unfolding marker_centers of_int of_bits

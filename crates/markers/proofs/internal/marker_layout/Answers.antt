@@ -14,10 +14,10 @@ unfolding layout_of
 returns-then-no_layout c = pick_yes (no_layout _) None (Some (placed _)) (cc)
 
 pub int_to_float-result : goal.int_to_float-result
-int_to_float-result c = held64 _ (omega (arith, marker_most c.args.frame))
+int_to_float-result c = held64 _ (omega (arith, marker_most c.args.frame.spec))
 
 pub returns : goal.returns
 unfolding layout_of of_int of_bits
 returns c =
-    let e : Some (record { m = of_int lib.Ieee.binary64 (lib.IntN.pos c.marker.result); origins = c.origins.result }) ≡ Some (placed c.args.frame) = cc in
+    let e : Some (record { m = of_int lib.Ieee.binary64 (lib.IntN.pos c.marker.result); origins = c.origins.result }) ≡ Some (placed c.args.frame.spec) = cc in
     e ∙ pick_no (no_layout _) None (Some (placed _)) (cc)

@@ -6,10 +6,10 @@ use Rattle.markers.proofs.Sizes.{quiet_most, marker_most}
 use Rattle.markers.proofs.internal.origins.Goals as goal
 
 pub int_to_float-m : goal.int_to_float-m
-int_to_float-m c = held64 _ (omega (arith, marker_most c.args.frame))
+int_to_float-m c = held64 _ (omega (arith, marker_most c.args.frame.spec))
 
 pub int_to_float-q : goal.int_to_float-q
-int_to_float-q c = held64 _ (omega (arith, quiet_most c.args.frame.cell))
+int_to_float-q c = held64 _ (omega (arith, quiet_most c.args.frame.spec.cell))
 
 pub int_to_float-far_x : goal.int_to_float-far_x
 int_to_float-far_x c = held64 _ (omega arith)
