@@ -5,4 +5,4 @@ use Rattle.vectors.proofs.sum.add.Goals as goal
 
 pub returns : goal.returns
 unfolding added
-returns c = (omega arith, omega arith)
+returns c = record { next = omega arith; bound = omega arith }
