@@ -10,6 +10,7 @@ ghost use Rattle.std.specs.Float.Ieee.{of_bits, to_bits};
 ghost use Rattle.vectors.specs.Words.{word_of, hex_digit_ascii, hex_line};
 
 // Word i of b, the lowest byte first, and 0 where b is too short to hold it.
+#[tactic(auto, unfolding(crate::specs::Words::word_of))]
 pub fn word(b: &[u8], i: usize) -> u64
     ensures { result ≡ word_of b.now i }
 {

@@ -40,6 +40,7 @@ pub fn of<T: Number>(items: &[T]) -> u64
 }
 
 // The checksum s with one number more.
+#[tactic(auto, unfolding(crate::specs::Sums::added))]
 fn add(s: u64, n: u64) -> u64
     requires { s < prime }
     ensures next { result ≡ added s n }
