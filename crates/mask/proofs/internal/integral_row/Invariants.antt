@@ -10,7 +10,9 @@ use Rattle.mask.proofs.internal.integral_row.Given as goal
 
 abbrev pub invariant-loop-x : goal.invariant-loop-x
 invariant-loop-x v =
-    ((l : List Float) → v.initial.integral ≡ filled (integral_entry v.luma v.w) ((v.y + 1) * (v.w + 1) + 1) l → v.integral ≡ filled (integral_entry v.luma v.w) ((v.y + 1) * (v.w + 1) + (v.x + 1)) l)
+    ((l : List Float)
+    → v.initial.integral ≡ filled (integral_entry v.luma v.w) ((v.y + 1) * (v.w + 1) + 1) l
+    → v.integral ≡ filled (integral_entry v.luma v.w) ((v.y + 1) * (v.w + 1) + (v.x + 1)) l)
     × (v.x ≤ v.w)
     × (v.row ≡ row_sum v.luma v.w v.y v.x)
     × (length v.integral ≡ length v.initial.integral)
