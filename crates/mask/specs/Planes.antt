@@ -3,7 +3,6 @@ use Rattle.std.specs.Prelude.{ℕ, ◌+◌, ◌*◌, ◌≤◌, ◌<◌, ◌≡�
 use Rattle.std.specs.Float.{nan}
 use Rattle.base.specs.Loops.{filled}
 use Rattle.frame.specs.Image.{Image}
-use Rattle.frame.specs.Limits.{FrameHeld, CaptureHeld}
 use Rattle.frame.specs.declared.FrameSpec.{FrameSpec}
 use Rattle.sampling.specs.Luma.{luma_at, luma_plane}
 use Rattle.mask.specs.Mask.{integral_entry, mask_entry}
@@ -15,11 +14,8 @@ entry_at a w x y = get_or a (y * (w + 1) + x) nan
 abbrev pub Integral : List Float → ℕ → ℕ → List Float → Type 0
 Integral luma w h a = (k : ℕ) → k < (w + 1) * (h + 1) → get_or a k nan ≡ integral_entry luma w k
 
--- what refusals 1, 2, 3 and 6 leave: frame and capture within their limits, and areas long enough. From a side of 32
--- on, 8 is at most a quarter of it.
-pub record Ready (img : Image) (f : FrameSpec) (luma integral : List Float) (mask : List ℕ) : Type 0 where
-  pub frame : FrameHeld f
-  pub capture : CaptureHeld img
+-- what refusals 3 and 6 leave: areas long enough, and sides of 32 or more, of which 8 is at most a quarter
+pub record Ready (img : Image) (luma integral : List Float) (mask : List ℕ) : Type 0 where
   pub luma_room : img.w * img.h ≤ length luma
   pub integral_room : (img.w + 1) * (img.h + 1) ≤ length integral
   pub mask_room : img.w * img.h ≤ length mask

@@ -3,14 +3,14 @@
 ghost use Rattle.std.specs.Prelude.{◌≡◌, cond, List, ℕ, ◌+◌, ◌*◌, ◌-◌, ◌<◌, ◌≤◌, length, Float};
 ghost use Rattle.base.specs.Loops.{filled};
 ghost use Rattle.float.specs.Floats.{f64};
-ghost use Rattle.frame.specs.Image.{image};
-ghost use Rattle.frame.specs.Limits.{FrameHeld};
+ghost use Rattle.view.specs.Views.{picture};
 ghost use Rattle.mask.specs.Mask.{integral_entry, box_mean, is_dark, dark_entry};
 ghost use Rattle.mask.specs.Mask as mask;
 ghost use Rattle.mask.specs.Planes.{entry_at, Integral, Ready, Planes};
 
 use float::internal::to_f64;
-use frame::FrameSpec;
+use frame::CheckedFrame;
+use view::RgbImage;
 
 // The first row is 0.
 fn first_row(integral: &mut [f64], n: usize)
@@ -125,9 +125,9 @@ fn adaptive_black_mask(
 }
 
 // m / 3, held to 8 .. a quarter of the shorter side.
-fn radius(w: usize, h: usize, frame: FrameSpec) -> usize
-    requires { (w ≤ 4096) × (h ≤ 4096) × FrameHeld frame }
-    ensures { (result ≡ mask.radius w h frame) × (result ≤ 4096) }
+fn radius(w: usize, h: usize, frame: CheckedFrame) -> usize
+    requires { (w ≤ 4096) × (h ≤ 4096) }
+    ensures { (result ≡ mask.radius w h frame.spec) × (result ≤ 4096) }
 {
     let most = w.min(h) / 4;
     most.min(markers::internal::marker(frame) / 3).max(8)
@@ -135,20 +135,20 @@ fn radius(w: usize, h: usize, frame: FrameSpec) -> usize
 
 // Luma, integral and mask of a capture.
 pub fn planes(
-    capture: &[u8],
-    w: usize,
-    h: usize,
-    frame: FrameSpec,
+    capture: RgbImage,
+    frame: CheckedFrame,
     luma: &mut [f32],
     integral: &mut [f64],
     mask: &mut [u8],
 )
-    requires { Ready (image w h capture.now) frame luma.old integral.old mask.old }
-    ensures { Planes (image w h capture.now) frame luma.old integral.old
+    requires { Ready (picture capture) luma.old integral.old mask.old }
+    ensures { Planes (picture capture.entry) frame.spec luma.old integral.old
         mask.old luma.new integral.new mask.new }
 {
+    let w = capture.w;
+    let h = capture.h;
     let n = w * h;
-    sampling::internal::luma_plane(capture, w, h, luma);
+    sampling::internal::luma_plane(capture, luma);
     integral_plane(&luma[..n], w, h, integral);
     let r = radius(w, h, frame);
     adaptive_black_mask(&luma[..n], integral, w, h, r, mask);

@@ -1,24 +1,24 @@
 // What the layers above call without the public functions' tests.
 ghost use Rattle.std.specs.Prelude.{◌≡◌, ◌*◌, ◌≤◌, length};
 ghost use Rattle.base.specs.Loops.{filled};
-ghost use Rattle.frame.specs.Image.{image};
-ghost use Rattle.frame.specs.Limits.{CaptureHeld};
+ghost use Rattle.view.specs.Views.{picture};
 ghost use Rattle.sampling.specs.Luma.{luma_at};
 ghost use Rattle.sampling.specs.Reading.{neighbours_of, blended, bilinear, inside, sample_at};
 
 use crate::{Neighbours, Sample};
 use float::internal::to_f64;
 use frame::{Point, Rgb};
+use view::RgbImage;
 
 // The luma of each pixel.
-pub fn luma_plane(capture: &[u8], w: usize, h: usize, luma: &mut [f32])
-    requires { CaptureHeld (image w h capture.now) × (w * h ≤ length luma.old) }
-    ensures { luma.new ≡ filled (luma_at (image w h capture.now)) (w * h)
-        luma.old }
+pub fn luma_plane(capture: RgbImage, luma: &mut [f32])
+    requires { capture.w * capture.h ≤ length luma.old }
+    ensures { luma.new ≡ filled (luma_at (picture capture.entry)) (capture.entry.w * capture.entry.h) luma.old }
 {
-    for i in 0..w * h {
+    let bytes = capture.data;
+    for i in 0..capture.w * capture.h {
         let at = 3 * i;
-        luma[i] = crate::luma(capture[at], capture[at + 1], capture[at + 2]);
+        luma[i] = crate::luma(bytes[at], bytes[at + 1], bytes[at + 2]);
     }
 }
 
@@ -45,16 +45,15 @@ fn blend(tx: f64, ty: f64, a: u8, b: u8, c: u8, d: u8) -> u8
 }
 
 // The colour at p, by weights of the four pixels around it, truncated.
-pub fn reading(capture: &[u8], w: usize, h: usize, p: Point) -> Rgb
-    requires { CaptureHeld (image w h capture.now) }
-    ensures { result ≡ bilinear (image w h capture.now) p }
+pub fn reading(capture: RgbImage, p: Point) -> Rgb
+    ensures { result ≡ bilinear (picture capture.entry) p }
 {
-    let across = neighbours(w, p.x);
-    let down = neighbours(h, p.y);
-    let a = view::internal::read(capture, w, h, across.first, down.first);
-    let b = view::internal::read(capture, w, h, across.next, down.first);
-    let c = view::internal::read(capture, w, h, across.first, down.next);
-    let d = view::internal::read(capture, w, h, across.next, down.next);
+    let across = neighbours(capture.w, p.x);
+    let down = neighbours(capture.h, p.y);
+    let a = capture.px(across.first, down.first);
+    let b = capture.px(across.next, down.first);
+    let c = capture.px(across.first, down.next);
+    let d = capture.px(across.next, down.next);
     let tx = across.part;
     let ty = down.part;
     Rgb {
@@ -73,12 +72,11 @@ pub fn inside(w: usize, h: usize, x: f64, y: f64) -> bool
 }
 
 // The reading at p, and whether p is inside the picture.
-pub fn sample(capture: &[u8], w: usize, h: usize, p: Point) -> Sample
-    requires { CaptureHeld (image w h capture.now) }
-    ensures { result ≡ sample_at (image w h capture.now) p }
+pub fn sample(capture: RgbImage, p: Point) -> Sample
+    ensures { result ≡ sample_at (picture capture.entry) p }
 {
     Sample {
-        colour: reading(capture, w, h, p),
-        inside: inside(w, h, p.x, p.y),
+        colour: reading(capture, p),
+        inside: inside(capture.w, capture.h, p.x, p.y),
     }
 }

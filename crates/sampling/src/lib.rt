@@ -8,6 +8,7 @@ ghost use Rattle.sampling.specs.Luma.{luma_of};
 ghost use Rattle.sampling.specs.Reading.{sample_at};
 
 use frame::{Point, Refusal, Rgb};
+use view::RgbImage;
 
 pub mod internal;
 
@@ -39,8 +40,6 @@ pub fn bilinear(capture: &[u8], w: usize, h: usize, x: f64, y: f64) -> Result<Sa
     ensures { result ≡ answer_for (capture_tests (image w h capture.now)) (sample_at
         (image w h capture.now) (record { x = x; y = y })) }
 {
-    if frame::internal::capture_wrong(capture, w, h) {
-        return Err(Refusal::CaptureWrong);
-    }
-    Ok(internal::sample(capture, w, h, Point { x, y }))
+    let capture = RgbImage::new(capture, w, h)?;
+    Ok(internal::sample(capture, Point { x, y }))
 }

@@ -8,7 +8,8 @@ use mathlib.Core.Path.{◌≡◌, ap, ◌∙◌}
 use Rattle.base.specs.Loops.{filled}
 use Rattle.base.proofs.Plane.{filled_at}
 use Rattle.base.proofs.Table.{length_table, take_filled}
-use Rattle.frame.specs.Image.{Image, image}
+use Rattle.frame.specs.Image.{Image}
+use Rattle.view.specs.Views.{picture}
 use Rattle.sampling.specs.Luma.{luma_at, luma_plane}
 use Rattle.mask.specs.Mask.{integral_entry, dark_entry}
 use Rattle.mask.proofs.internal.planes.Goals as goal
@@ -27,26 +28,26 @@ pub adaptive_black_mask-requires : goal.adaptive_black_mask-requires
 adaptive_black_mask-requires c =
     let a = c.args in
     let p = c.requires in (
-      p.capture.w_most,
-      p.capture.h_most,
+      a.capture.held.w_most,
+      a.capture.held.h_most,
       c.radius-r.ensures.1,
-      plane_length (image a.w a.h a.capture.now) a.luma.now _ p.luma_room c.luma_plane.ensures,
+      plane_length (picture a.capture) a.luma.now _ p.luma_room c.luma_plane.ensures,
       omega (arith, c.integral_plane.auto.integral, p.integral_room),
       p.mask_room,
       λ k h.
           ap (λ l. get_or l k nan) c.integral_plane.ensures
-          ∙ filled_at _ a.integral.now ((a.w + 1) * (a.h + 1)) k nan h p.integral_room,
+          ∙ filled_at _ a.integral.now ((a.capture.w + 1) * (a.capture.h + 1)) k nan h p.integral_room,
     )
 
 pub returns : goal.returns
 returns c =
     let a = c.args in
-    let img = image a.w a.h a.capture.now in
+    let img = picture a.capture in
     let p = plane_is img a.luma.now _ c.requires.luma_room c.luma_plane.ensures in
     record {
       luma_is = c.luma_plane.ensures;
-      integral_is = c.integral_plane.ensures ∙ ap (λ l. filled (integral_entry l a.w) ((a.w + 1) * (a.h + 1)) a.integral.now) p;
+      integral_is = c.integral_plane.ensures ∙ ap (λ l. filled (integral_entry l a.capture.w) ((a.capture.w + 1) * (a.capture.h + 1)) a.integral.now) p;
       mask_is = c.adaptive_black_mask.ensures
-          ∙ ap (λ l. filled (dark_entry l a.w a.h c.radius-r.result) (a.w * a.h) a.mask.now) p
-          ∙ ap (λ r. filled (dark_entry (luma_plane img) a.w a.h r) (a.w * a.h) a.mask.now) c.radius-r.ensures.0;
+          ∙ ap (λ l. filled (dark_entry l a.capture.w a.capture.h c.radius-r.result) (a.capture.w * a.capture.h) a.mask.now) p
+          ∙ ap (λ r. filled (dark_entry (luma_plane img) a.capture.w a.capture.h r) (a.capture.w * a.capture.h) a.mask.now) c.radius-r.ensures.0;
     }

@@ -3,9 +3,9 @@ use Prim.Native.Nat.{◌≤◌, ◌*◌}
 use mathlib.Core.Path.{◌≡◌}
 use lib.ListN.{length}
 use Rattle.base.specs.Loops.{filled}
-use Rattle.frame.specs.Image.{image}
+use Rattle.view.specs.Views.{picture}
 use Rattle.sampling.specs.Luma.{luma_at}
 use Rattle.sampling.proofs.internal.luma_plane.Given as goal
 
 abbrev pub invariant-loop-i : goal.invariant-loop-i
-invariant-loop-i l = (l.luma ≡ filled (luma_at (image l.w l.h l.capture)) l.i l.initial.luma) × (l.i ≤ l.w * l.h) × (length l.luma ≡ length l.initial.luma)
+invariant-loop-i l = (l.luma ≡ filled (luma_at (picture l.capture)) l.i l.initial.luma) × (l.i ≤ l.capture.w * l.capture.h) × (length l.luma ≡ length l.initial.luma)

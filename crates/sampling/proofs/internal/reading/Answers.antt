@@ -43,35 +43,35 @@ within img p s t h e f =
       below = omega (arith, ap (λ z. z.next) f, next_in img.h p.y h.h_least h.h_most);
     }
 
-pub read-a-requires : goal.read-a-requires
-read-a-requires c =
-    let k = within _ c.args.p _ _ c.requires c.neighbours-across.ensures c.neighbours-down.ensures in
-    (c.requires, k.left, k.above)
+pub px-a-requires : goal.px-a-requires
+px-a-requires c =
+    let k = within _ c.args.p _ _ c.args.capture.held c.neighbours-across.ensures c.neighbours-down.ensures in
+    (k.left, k.above)
 
-pub read-b-requires : goal.read-b-requires
-read-b-requires c =
-    let k = within _ c.args.p _ _ c.requires c.neighbours-across.ensures c.neighbours-down.ensures in
-    (c.requires, k.right, k.above)
+pub px-b-requires : goal.px-b-requires
+px-b-requires c =
+    let k = within _ c.args.p _ _ c.args.capture.held c.neighbours-across.ensures c.neighbours-down.ensures in
+    (k.right, k.above)
 
-pub read-c-requires : goal.read-c-requires
-read-c-requires c =
-    let k = within _ c.args.p _ _ c.requires c.neighbours-across.ensures c.neighbours-down.ensures in
-    (c.requires, k.left, k.below)
+pub px-c-requires : goal.px-c-requires
+px-c-requires c =
+    let k = within _ c.args.p _ _ c.args.capture.held c.neighbours-across.ensures c.neighbours-down.ensures in
+    (k.left, k.below)
 
-pub read-d-requires : goal.read-d-requires
-read-d-requires c =
-    let k = within _ c.args.p _ _ c.requires c.neighbours-across.ensures c.neighbours-down.ensures in
-    (c.requires, k.right, k.below)
+pub px-d-requires : goal.px-d-requires
+px-d-requires c =
+    let k = within _ c.args.p _ _ c.args.capture.held c.neighbours-across.ensures c.neighbours-down.ensures in
+    (k.right, k.below)
 
 pub returns : goal.returns
 returns c =
     let s = c.neighbours-across in
     let t = c.neighbours-down in
     colour_is _ s.result t.result _ _ _ _ _ _ _
-    c.read-a.ensures
-    c.read-b.ensures
-    c.read-c.ensures
-    c.read-d.ensures
+    c.px-a.ensures
+    c.px-b.ensures
+    c.px-c.ensures
+    c.px-d.ensures
     c.blend.ensures
     c.blend-2.ensures
     c.blend-3.ensures
