@@ -14,6 +14,15 @@ entry_at a w x y = get_or a (y * (w + 1) + x) nan
 abbrev pub Integral : List Float → ℕ → ℕ → List Float → Type 0
 Integral luma w h a = (k : ℕ) → k < (w + 1) * (h + 1) → get_or a k nan ≡ integral_entry luma w k
 
+-- what a luma plane of a picture w by h, its integral and the radius of a box keep
+pub record BoxesHeld (w h radius : ℕ) (luma integral : List Float) : Type 0 where
+  pub w_most : w ≤ 4096
+  pub h_most : h ≤ 4096
+  pub radius_most : radius ≤ 4096
+  pub luma_length : length luma ≡ w * h
+  pub integral_room : (w + 1) * (h + 1) ≤ length integral
+  pub sums : Integral luma w h integral
+
 -- what refusals 3 and 6 leave: areas long enough, and sides of 32 or more, of which 8 is at most a quarter
 pub record Ready (img : Image) (luma integral : List Float) (mask : List ℕ) : Type 0 where
   pub luma_room : img.w * img.h ≤ length luma

@@ -6,7 +6,7 @@ ghost use Rattle.float.specs.Floats.{f64};
 ghost use Rattle.view.specs.Views.{picture};
 ghost use Rattle.mask.specs.Mask.{integral_entry, box_mean, is_dark, dark_entry};
 ghost use Rattle.mask.specs.Mask as mask;
-ghost use Rattle.mask.specs.Planes.{entry_at, Integral, Ready, Planes};
+ghost use Rattle.mask.specs.Planes.{entry_at, BoxesHeld, Ready, Planes};
 
 use float::internal::to_f64;
 use frame::CheckedFrame;
@@ -53,74 +53,70 @@ fn integral_plane(luma: &[f32], w: usize, h: usize, integral: &mut [f64])
     }
 }
 
-// The mean luma of the box around column x and row y, clipped at the picture.
-fn box_mean(integral: &[f64], w: usize, h: usize, radius: usize, x: usize, y: usize) -> f32
-    requires { (w ≤ 4096) × (h ≤ 4096) × (radius ≤ 4096) × (x < w) × (y < h)
-        × ((w + 1) * (h + 1) ≤ length integral.now) }
-    ensures { result ≡ box_mean (entry_at integral.now w) w h radius x y }
-{
-    let s = w + 1;
-    let x0 = x.saturating_sub(radius);
-    let x1 = w.min(x + radius + 1);
-    let y0 = y.saturating_sub(radius);
-    let y1 = h.min(y + radius + 1);
-    let a = y1 * s + x1;
-    let b = y0 * s + x1;
-    let c = y1 * s + x0;
-    let d = y0 * s + x0;
-    let sum = integral[a] - integral[b] - integral[c] + integral[d];
-    float::narrow(sum / to_f64((x1 - x0) * (y1 - y0)))
-}
-
-// 1 where the pixel is dark, else 0.
-fn dark(luma: &[f32], integral: &[f64], w: usize, h: usize, radius: usize, x: usize, y: usize) -> u8
-    requires { (w ≤ 4096) × (h ≤ 4096) × (radius ≤ 4096) × (x < w) × (y < h) × (length luma.now ≡ w * h)
-        × ((w + 1) * (h + 1) ≤ length integral.now) × Integral luma.now w h integral.now }
-    ensures { result ≡ cond (is_dark luma.now w h radius x y) 1 0 }
-{
-    let i = y * w + x;
-    let mean = box_mean(integral, w, h, radius, x, y);
-    u8::from(luma[i] < mean - 8.0)
-}
-
-fn mask_row(
-    luma: &[f32],
-    integral: &[f64],
+// A picture's luma plane and its integral, and the radius of the box whose mean tells what is dark.
+#[derive(Clone, Copy)]
+struct BoxMeans<'a> {
     w: usize,
     h: usize,
     radius: usize,
-    y: usize,
-    mask: &mut [u8],
-)
-    requires { (w ≤ 4096) × (h ≤ 4096) × (radius ≤ 4096) × (y < h) × (length luma.now ≡ w * h)
-        × ((w + 1) * (h + 1) ≤ length integral.now) × (w * h ≤ length mask.old) × Integral luma.now w h
-        integral.now }
-    ensures { (l : List ℕ) → mask.old ≡ filled (dark_entry luma.now w h radius) (y * w) l
-        → mask.new ≡ filled (dark_entry luma.now w h radius) ((y + 1) * w) l }
-{
-    for x in 0..w {
-        let i = y * w + x;
-        mask[i] = dark(luma, integral, w, h, radius, x, y);
+    luma: &'a [f32],
+    integral: &'a [f64],
+    ghost held: { BoxesHeld w h radius luma.now integral.now },
+}
+
+impl<'a> BoxMeans<'a> {
+    // The mean luma of the box around column x and row y, clipped at the picture.
+    fn box_mean(self, x: usize, y: usize) -> f32
+        requires { (x < self.w) × (y < self.h) }
+        ensures { result ≡ box_mean (entry_at self.entry.integral.now self.entry.w) self.entry.w self.entry.h
+            self.entry.radius x y }
+    {
+        let integral = self.integral;
+        let s = self.w + 1;
+        let x0 = x.saturating_sub(self.radius);
+        let x1 = self.w.min(x + self.radius + 1);
+        let y0 = y.saturating_sub(self.radius);
+        let y1 = self.h.min(y + self.radius + 1);
+        let a = y1 * s + x1;
+        let b = y0 * s + x1;
+        let c = y1 * s + x0;
+        let d = y0 * s + x0;
+        let sum = integral[a] - integral[b] - integral[c] + integral[d];
+        float::narrow(sum / to_f64((x1 - x0) * (y1 - y0)))
     }
-}
 
-// The mask from the luma and its integral.
-fn adaptive_black_mask(
-    luma: &[f32],
-    integral: &[f64],
-    w: usize,
-    h: usize,
-    radius: usize,
-    mask: &mut [u8],
-)
-    requires { (w ≤ 4096) × (h ≤ 4096) × (radius ≤ 4096) × (length luma.now ≡ w * h)
-        × ((w + 1) * (h + 1) ≤ length integral.now) × (w * h ≤ length mask.old) × Integral luma.now w h
-        integral.now }
-    ensures { mask.new ≡ filled (dark_entry luma.now w h radius) (w * h)
-        mask.old }
-{
-    for y in 0..h {
-        mask_row(luma, integral, w, h, radius, y, mask);
+    // 1 where the pixel is dark, else 0.
+    fn dark(self, x: usize, y: usize) -> u8
+        requires { (x < self.w) × (y < self.h) }
+        ensures { result ≡ cond (is_dark self.entry.luma.now self.entry.w self.entry.h self.entry.radius x y) 1 0 }
+    {
+        let luma = self.luma;
+        let i = y * self.w + x;
+        let mean = self.box_mean(x, y);
+        u8::from(luma[i] < mean - 8.0)
+    }
+
+    // Row y of the mask, above which it is done.
+    fn mask_row(self, y: usize, mask: &mut [u8])
+        requires { (y < self.h) × (self.w * self.h ≤ length mask.old) }
+        ensures { (l : List ℕ) → mask.old ≡ filled (dark_entry self.entry.luma.now self.entry.w self.entry.h self.entry.radius) (y * self.entry.w) l
+            → mask.new ≡ filled (dark_entry self.entry.luma.now self.entry.w self.entry.h self.entry.radius) ((y + 1) * self.entry.w) l }
+    {
+        let w = self.w;
+        for x in 0..w {
+            let i = y * w + x;
+            mask[i] = self.dark(x, y);
+        }
+    }
+
+    // The mask of the whole picture.
+    fn adaptive_black_mask(self, mask: &mut [u8])
+        requires { self.w * self.h ≤ length mask.old }
+        ensures { mask.new ≡ filled (dark_entry self.entry.luma.now self.entry.w self.entry.h self.entry.radius) (self.entry.w * self.entry.h) mask.old }
+    {
+        for y in 0..self.h {
+            self.mask_row(y, mask);
+        }
     }
 }
 
@@ -150,6 +146,12 @@ pub fn planes(
     let n = w * h;
     sampling::internal::luma_plane(capture, luma);
     integral_plane(&luma[..n], w, h, integral);
-    let r = radius(w, h, frame);
-    adaptive_black_mask(&luma[..n], integral, w, h, r, mask);
+    let means = BoxMeans {
+        w,
+        h,
+        radius: radius(w, h, frame),
+        luma: &luma[..n],
+        integral,
+    };
+    means.adaptive_black_mask(mask);
 }

@@ -24,20 +24,22 @@ module _ (img : Image) (luma luma' : List Float) (room : img.w * img.h ≤ lengt
   unfolding luma_plane
   plane_length = ap length plane_is ∙ length_table (luma_at img) (img.w * img.h)
 
-pub adaptive_black_mask-requires : goal.adaptive_black_mask-requires
-adaptive_black_mask-requires c =
+pub invariant_of-means : goal.invariant_of-means
+invariant_of-means c =
     let a = c.args in
-    let p = c.requires in (
-      a.capture.held.w_most,
-      a.capture.held.h_most,
-      c.radius-r.ensures.1,
-      plane_length (picture a.capture) a.luma.now _ p.luma_room c.luma_plane.ensures,
-      omega (arith, c.integral_plane.auto.integral, p.integral_room),
-      p.mask_room,
-      λ k h.
-          ap (λ l. get_or l k nan) c.integral_plane.ensures
-          ∙ filled_at _ a.integral.now ((a.capture.w + 1) * (a.capture.h + 1)) k nan h p.integral_room,
-    )
+    let p = c.requires in
+    record {
+      held = record {
+        w_most = a.capture.held.w_most;
+        h_most = a.capture.held.h_most;
+        radius_most = c.radius.ensures.1;
+        luma_length = plane_length (picture a.capture) a.luma.now _ p.luma_room c.luma_plane.ensures;
+        integral_room = omega (arith, c.integral_plane.auto.integral, p.integral_room);
+        sums = λ k h.
+            ap (λ l. get_or l k nan) c.integral_plane.ensures
+            ∙ filled_at _ a.integral.now ((a.capture.w + 1) * (a.capture.h + 1)) k nan h p.integral_room;
+      };
+    }
 
 pub returns : goal.returns
 returns c =
@@ -48,6 +50,6 @@ returns c =
       luma_is = c.luma_plane.ensures;
       integral_is = c.integral_plane.ensures ∙ ap (λ l. filled (integral_entry l a.capture.w) ((a.capture.w + 1) * (a.capture.h + 1)) a.integral.now) p;
       mask_is = c.adaptive_black_mask.ensures
-          ∙ ap (λ l. filled (dark_entry l a.capture.w a.capture.h c.radius-r.result) (a.capture.w * a.capture.h) a.mask.now) p
-          ∙ ap (λ r. filled (dark_entry (luma_plane img) a.capture.w a.capture.h r) (a.capture.w * a.capture.h) a.mask.now) c.radius-r.ensures.0;
+          ∙ ap (λ l. filled (dark_entry l a.capture.w a.capture.h c.radius.result) (a.capture.w * a.capture.h) a.mask.now) p
+          ∙ ap (λ r. filled (dark_entry (luma_plane img) a.capture.w a.capture.h r) (a.capture.w * a.capture.h) a.mask.now) c.radius.ensures.0;
     }

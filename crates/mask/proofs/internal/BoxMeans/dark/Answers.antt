@@ -1,4 +1,4 @@
--- `mask::internal::dark` meets its contract. Assumes nothing.
+-- `mask::internal::BoxMeans::dark` meets its contract. Assumes nothing.
 use lib.Ieee.{nan, binary32, sub, lt, of_bits, of_int}
 use native.Mathlib.Omega.{arith}
 use Prim.Native.Nat.{◌+◌, ◌*◌}
@@ -9,7 +9,7 @@ use lib.ListN.{get_or}
 use Rattle.float.specs.Floats.{f32}
 use Rattle.mask.specs.Mask.{is_dark}
 use Rattle.mask.proofs.Boxes.{mean_is}
-use Rattle.mask.proofs.internal.dark.Goals as goal
+use Rattle.mask.proofs.internal.BoxMeans.dark.Goals as goal
 
 byte_is : (b : Bool) → bool_byte b ≡ cond b 1 0
 byte_is true = refl
@@ -19,7 +19,7 @@ pub returns : goal.returns
 unfolding of_bits of_int is_dark
 returns c =
     let a = c.args in
-    let mean = c.box_mean-mean.ensures ∙ mean_is a.luma.now a.integral.now a.w a.h c.requires.7 a.radius a.x a.y (omega arith) (omega arith) in
+    let mean = c.box_mean-mean.ensures ∙ mean_is a.self.luma.now a.self.integral.now a.self.w a.self.h a.self.held.sums a.self.radius a.x a.y (omega arith) (omega arith) in
     c.from.ensures
-    ∙ ap (λ m. bool_byte (lt (get_or a.luma.now (a.y * a.w + a.x) nan) (sub binary32 m (f32 8)))) mean
+    ∙ ap (λ m. bool_byte (lt (get_or a.self.luma.now (a.y * a.self.w + a.x) nan) (sub binary32 m (f32 8)))) mean
     ∙ byte_is _
