@@ -30,6 +30,14 @@ use Rattle.candidates.proofs.Refusing.{clear, ready_of}
 pub ready : (img : Image) (f : FrameSpec) (a : Areas) → lowest_of (look_tests img f a) ≡ 0 → Ready img f a
 ready img f a e = let c = clear img f (area_short img a) false e in ready_of img f a c c.long
 
+-- of a picture and a frame by what they are
+pub ready_as : {img img' : Image} {f f' : FrameSpec} {a : Areas} → img' ≡ img → f' ≡ f → Ready img f a → Ready img' f' a
+ready_as d e r = rw (d, e) r
+
+pub looked_as : {img img' : Image} {f f' : FrameSpec} {a b : Areas} {n k waited : ℕ} → img' ≡ img → f' ≡ f → Looked img' f' a b n k waited
+    → Looked img f a b n k waited
+looked_as d e l = rw (sym d, sym e) l
+
 -- ---- the public function's two ends
 
 pub listing_refused : (img : Image) (f : FrameSpec) (a : Areas) (r : Refusal) → number r ≡ lowest_of (look_tests img f a) → Listing img f a a (number r) 0 0 0

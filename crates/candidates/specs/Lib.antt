@@ -4,3 +4,4 @@ pub mod Areas
 pub mod Promises
 pub mod Bounds
 pub mod Agreement
+pub mod Lent

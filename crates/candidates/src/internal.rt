@@ -1,44 +1,50 @@
 // The whole look behind `fiducial_candidates`, for the crates above.
-ghost use Rattle.candidates.specs.Areas.{areas};
+ghost use Rattle.candidates.specs.Lent.{areas_of, SameAreas};
 ghost use Rattle.candidates.specs.Bounds.{Ready};
 ghost use Rattle.candidates.specs.Promises.{Looked};
-ghost use Rattle.frame.specs.Image.{image};
+ghost use Rattle.view.specs.Views.{picture};
 
-use super::Counts;
 use super::list::list;
 pub use super::list::{candidate_at, center_at};
-pub use super::tests::{areas_short, picture_refused, refused, smallest};
+pub use super::tests::{areas_short, picture_tested, smallest, tested};
+use super::{Counts, WorkAreas};
 use blobs::internal::label;
-use frame::FrameSpec;
+use frame::CheckedFrame;
 use mask::internal::planes;
+use view::RgbImage;
 
 // Planes, patches and candidates of a capture, with how many there are and the most pixels waiting.
-pub fn look(
-    capture: &[u8],
-    w: usize,
-    h: usize,
-    frame: FrameSpec,
-    luma: &mut [f32],
-    integral: &mut [f64],
-    mask: &mut [u8],
-    seen: &mut [u8],
-    waiting: &mut [u32],
-    patches: &mut [u64],
-    candidates: &mut [f64],
-    blob_index: &mut [u32],
-) -> Counts
-    requires { Ready (image w h capture.now) frame
-        (areas luma.old integral.old mask.old seen.old waiting.old patches.old candidates.old
-        blob_index.old) }
-    ensures { Looked (image w h capture.now) frame
-        (areas luma.old integral.old mask.old seen.old
-        waiting.old patches.old candidates.old blob_index.old)
-        (areas luma.new integral.new mask.new seen.new waiting.new
-        patches.new candidates.new blob_index.new)
+pub fn look(capture: RgbImage, frame: CheckedFrame, work: &mut WorkAreas) -> Counts
+    requires { Ready (picture capture) frame.spec (areas_of work.old) }
+    ensures looked { Looked (picture capture.entry) frame.spec (areas_of work.old) (areas_of work.new)
         result.patches result.candidates result.waited }
+    ensures same { SameAreas work.new work.old }
 {
-    planes(capture, w, h, frame, luma, integral, mask);
+    // Lent on together, since parts of two are read while a third is written.
+    let lent = WorkAreas {
+        luma: &mut *work.luma,
+        integral: &mut *work.integral,
+        mask: &mut *work.mask,
+        seen: &mut *work.seen,
+        waiting: &mut *work.waiting,
+        patches: &mut *work.patches,
+        candidates: &mut *work.candidates,
+        blob_index: &mut *work.blob_index,
+    };
+    let WorkAreas {
+        luma,
+        integral,
+        mask,
+        seen,
+        waiting,
+        patches,
+        candidates,
+        blob_index,
+    } = lent;
+    let w = capture.w;
+    let h = capture.h;
     let n = w * h;
+    planes(capture, frame, luma, integral, mask);
     let labelled = label(&mask[..n], w, h, seen, waiting, patches);
     let k = list(
         &mask[..n],

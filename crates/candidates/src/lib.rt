@@ -4,11 +4,12 @@
 ghost use Rattle.std.specs.Prelude.{◌≡◌};
 ghost use Rattle.frame.specs.Image.{image};
 ghost use Rattle.frame.specs.Refusals.{number_of};
-ghost use Rattle.candidates.specs.Areas.{areas, lengths_of};
+ghost use Rattle.candidates.specs.Areas.{lengths_of};
+ghost use Rattle.candidates.specs.Lent.{areas_of, SameAreas};
 ghost use Rattle.candidates.specs.Promises.{counts_of, Listing};
 
 use frame::{FrameSpec, Point, Refusal};
-use internal::{look, refused};
+use internal::{look, tested};
 
 mod bullseye;
 mod constants;
@@ -70,30 +71,32 @@ pub struct Lengths {
     pub blob_index: usize,
 }
 
-impl Lengths {
-    // The lengths of the areas that a call is lent.
-    pub fn of(
-        luma: &[f32],
-        integral: &[f64],
-        mask: &[u8],
-        seen: &[u8],
-        waiting: &[u32],
-        patches: &[u64],
-        candidates: &[f64],
-        blob_index: &[u32],
-    ) -> Lengths
-        ensures { result ≡ lengths_of (areas luma.now integral.now mask.now seen.now waiting.now
-            patches.now candidates.now blob_index.now) }
+// The areas that are lent for a look at a picture.
+#[derive(Drop)]
+pub struct WorkAreas<'a> {
+    pub luma: &'a mut [f32],
+    pub integral: &'a mut [f64],
+    pub mask: &'a mut [u8],
+    pub seen: &'a mut [u8],
+    pub waiting: &'a mut [u32],
+    pub patches: &'a mut [u64],
+    pub candidates: &'a mut [f64],
+    pub blob_index: &'a mut [u32],
+}
+
+impl<'a> WorkAreas<'a> {
+    pub fn lengths(&self) -> Lengths
+        ensures { result ≡ lengths_of (areas_of self.now) }
     {
         Lengths {
-            luma: luma.len(),
-            integral: integral.len(),
-            mask: mask.len(),
-            seen: seen.len(),
-            waiting: waiting.len(),
-            patches: patches.len(),
-            candidates: candidates.len(),
-            blob_index: blob_index.len(),
+            luma: self.luma.len(),
+            integral: self.integral.len(),
+            mask: self.mask.len(),
+            seen: self.seen.len(),
+            waiting: self.waiting.len(),
+            patches: self.patches.len(),
+            candidates: self.candidates.len(),
+            blob_index: self.blob_index.len(),
         }
     }
 }
@@ -112,28 +115,13 @@ pub fn fiducial_candidates(
     w: usize,
     h: usize,
     frame: FrameSpec,
-    luma: &mut [f32],
-    integral: &mut [f64],
-    mask: &mut [u8],
-    seen: &mut [u8],
-    waiting: &mut [u32],
-    patches: &mut [u64],
-    candidates: &mut [f64],
-    blob_index: &mut [u32],
+    work: &mut WorkAreas,
 ) -> Result<Counts, Refusal>
-    ensures { let counts = counts_of result in
-        Listing (image w h capture.now) frame
-        (areas luma.old integral.old mask.old seen.old
-        waiting.old patches.old candidates.old blob_index.old)
-        (areas luma.new integral.new mask.new seen.new waiting.new
-        patches.new candidates.new blob_index.new)
+    ensures listing { let counts = counts_of result in
+        Listing (image w h capture.now) frame (areas_of work.old) (areas_of work.new)
         (number_of result) counts.patches counts.candidates counts.waited }
+    ensures same { SameAreas work.new work.old }
 {
-    let lengths = Lengths::of(
-        luma, integral, mask, seen, waiting, patches, candidates, blob_index,
-    );
-    refused(capture, w, h, frame, lengths)?;
-    Ok(look(
-        capture, w, h, frame, luma, integral, mask, seen, waiting, patches, candidates, blob_index,
-    ))
+    let (capture, frame) = tested(capture, w, h, frame, work.lengths())?;
+    Ok(look(capture, frame, work))
 }

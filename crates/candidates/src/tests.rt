@@ -1,13 +1,15 @@
 // Refusals 1 to 6 of a call on a picture.
-ghost use Rattle.std.specs.Prelude.{◌≡◌, false, ◌≤◌};
+ghost use Rattle.std.specs.Prelude.{◌≡◌, false, ◌≤◌, IfOk};
 ghost use Rattle.candidates.specs.Areas.{smallest, shorter, picture_tests};
 ghost use Rattle.frame.specs.Image.{image};
+ghost use Rattle.view.specs.Views.{picture};
 ghost use Rattle.frame.specs.Refusals.{lowest_of, number_of};
 
 use super::Lengths;
-use frame::internal::{capture_small, capture_wrong, frame_outside};
-use frame::{FrameSpec, Refusal};
+use frame::internal::capture_small;
+use frame::{CheckedFrame, FrameSpec, Refusal};
 use markers::internal::no_layout;
+use view::RgbImage;
 
 // The smallest lengths of the work areas for a picture w by h.
 pub fn smallest(w: usize, h: usize) -> Lengths
@@ -49,24 +51,21 @@ pub fn areas_short(w: usize, h: usize, lengths: Lengths) -> bool
     shorter(lengths, smallest(w.min(4096), h.min(4096)))
 }
 
-// The lowest refusal of a call on a picture: short says that a work area is too short, wrong that
-// the canonical image is of a wrong length (false where there is none).
-pub fn picture_refused(
-    capture: &[u8],
+// The capture and the frame of a call on a picture, or the lowest refusal: short says that a work
+// area is too short, wrong that the canonical image is of a wrong length (false where there is none).
+pub fn picture_tested<'a>(
+    capture: &'a [u8],
     w: usize,
     h: usize,
     frame: FrameSpec,
     short: bool,
     wrong: bool,
-) -> Result<(), Refusal>
-    ensures { number_of result ≡ lowest_of (picture_tests (image w h capture.now) frame short wrong) }
+) -> Result<(RgbImage<'a>, CheckedFrame), Refusal>
+    ensures number { number_of result ≡ lowest_of (picture_tests (image w h capture.entry.now) frame short wrong) }
+    ensures value { IfOk result (λ p. (picture p.0 ≡ image w h capture.entry.now) × (p.1.spec ≡ frame)) }
 {
-    if frame_outside(frame) {
-        return Err(Refusal::FrameOutside);
-    }
-    if capture_wrong(capture, w, h) {
-        return Err(Refusal::CaptureWrong);
-    }
+    let frame = CheckedFrame::new(frame)?;
+    let capture = RgbImage::new(capture, w, h)?;
     if short {
         return Err(Refusal::AreaShort);
     }
@@ -79,19 +78,20 @@ pub fn picture_refused(
     if capture_small(w, h) {
         return Err(Refusal::CaptureSmall);
     }
-    Ok(())
+    Ok((capture, frame))
 }
 
 // .. of a look at the picture.
-pub fn refused(
-    capture: &[u8],
+pub fn tested<'a>(
+    capture: &'a [u8],
     w: usize,
     h: usize,
     frame: FrameSpec,
     lengths: Lengths,
-) -> Result<(), Refusal>
-    ensures { number_of result ≡ lowest_of (picture_tests (image w h capture.now) frame
+) -> Result<(RgbImage<'a>, CheckedFrame), Refusal>
+    ensures number { number_of result ≡ lowest_of (picture_tests (image w h capture.entry.now) frame
         (shorter lengths (smallest w h)) false) }
+    ensures value { IfOk result (λ p. (picture p.0 ≡ image w h capture.entry.now) × (p.1.spec ≡ frame)) }
 {
-    picture_refused(capture, w, h, frame, areas_short(w, h, lengths), false)
+    picture_tested(capture, w, h, frame, areas_short(w, h, lengths), false)
 }

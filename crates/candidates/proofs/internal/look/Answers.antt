@@ -5,7 +5,7 @@ use mathlib.Core.Path.{◌≡◌, sym, ap, ◌∙◌}
 use mir.Syntax.{w64}
 use mir.Val.{Fits}
 use lib.ListN.{length, take}
-use Rattle.frame.specs.Image.{image}
+use Rattle.view.specs.Views.{picture}
 use Rattle.sampling.specs.Luma.{luma_plane}
 use Rattle.mask.specs.Mask.{mask_plane}
 use Rattle.blobs.specs.Areas.{patch_areas}
@@ -23,11 +23,11 @@ still e l = omega arith
 pub planes-requires : goal.planes-requires
 planes-requires c =
     let r = c.requires in
-    record { frame = r.frame; capture = r.capture; luma_room = r.luma_room; integral_room = r.integral_room; mask_room = r.mask_room; wide = r.wide; high = r.high }
+    record { luma_room = r.luma_room; integral_room = r.integral_room; mask_room = r.mask_room; wide = r.wide; high = r.high }
 
 pub overflow_mul-n : goal.overflow_mul-n
 overflow_mul-n c =
-    fits c.args.w c.args.h c.requires.capture.w_most c.requires.capture.h_most
+    fits c.args.capture.w c.args.capture.h c.requires.capture.w_most c.requires.capture.h_most
 
 pub slice_bounds-label-end : goal.slice_bounds-label-end
 slice_bounds-label-end c =
@@ -36,15 +36,15 @@ slice_bounds-label-end c =
 pub slice_bounds-label-end-2 : goal.slice_bounds-label-end-2
 slice_bounds-label-end-2 c =
     let a = c.args in
-    let mask_is : take (a.w * a.h) c.planes.new.mask ≡ mask_plane (image a.w a.h a.capture.now) a.frame = mask_front _ _ _ c.requires c.planes.ensures.mask_is in
-    let mask_length : length (take (a.w * a.h) c.planes.new.mask) ≡ a.w * a.h = ap length mask_is ∙ (planes_held _ _ _ c.requires).mask_long in
+    let mask_is : take (a.capture.w * a.capture.h) c.planes.new.mask ≡ mask_plane (picture a.capture) a.frame.spec = mask_front _ _ _ c.requires c.planes.ensures.mask_is in
+    let mask_length : length (take (a.capture.w * a.capture.h) c.planes.new.mask) ≡ a.capture.w * a.capture.h = ap length mask_is ∙ (planes_held _ _ _ c.requires).mask_long in
     sym mask_length
 
 pub label-labelled-requires : goal.label-labelled-requires
 label-labelled-requires c =
     let a = c.args in
-    let mask_is : take (a.w * a.h) c.planes.new.mask ≡ mask_plane (image a.w a.h a.capture.now) a.frame = mask_front _ _ _ c.requires c.planes.ensures.mask_is in
-    let mask_length : length (take (a.w * a.h) c.planes.new.mask) ≡ a.w * a.h = ap length mask_is ∙ (planes_held _ _ _ c.requires).mask_long in
+    let mask_is : take (a.capture.w * a.capture.h) c.planes.new.mask ≡ mask_plane (picture a.capture) a.frame.spec = mask_front _ _ _ c.requires c.planes.ensures.mask_is in
+    let mask_length : length (take (a.capture.w * a.capture.h) c.planes.new.mask) ≡ a.capture.w * a.capture.h = ap length mask_is ∙ (planes_held _ _ _ c.requires).mask_long in
     let r = c.requires in (
       record { wide = r.capture.w_least; narrow = r.capture.w_most; high = r.capture.h_least; low = r.capture.h_most; size = mask_length },
       r.seen_room,
@@ -59,8 +59,8 @@ slice_bounds-list-end c =
 pub slice_bounds-list-end-2 : goal.slice_bounds-list-end-2
 slice_bounds-list-end-2 c =
     let a = c.args in
-    let mask_is : take (a.w * a.h) c.planes.new.mask ≡ mask_plane (image a.w a.h a.capture.now) a.frame = mask_front _ _ _ c.requires c.planes.ensures.mask_is in
-    let mask_length : length (take (a.w * a.h) c.planes.new.mask) ≡ a.w * a.h = ap length mask_is ∙ (planes_held _ _ _ c.requires).mask_long in
+    let mask_is : take (a.capture.w * a.capture.h) c.planes.new.mask ≡ mask_plane (picture a.capture) a.frame.spec = mask_front _ _ _ c.requires c.planes.ensures.mask_is in
+    let mask_length : length (take (a.capture.w * a.capture.h) c.planes.new.mask) ≡ a.capture.w * a.capture.h = ap length mask_is ∙ (planes_held _ _ _ c.requires).mask_long in
     sym mask_length
 
 pub slice_bounds-list-end-3 : goal.slice_bounds-list-end-3
@@ -70,26 +70,26 @@ slice_bounds-list-end-3 c =
 pub slice_bounds-list-end-4 : goal.slice_bounds-list-end-4
 slice_bounds-list-end-4 c =
     let a = c.args in
-    let luma_is : take (a.w * a.h) c.planes.new.luma ≡ luma_plane (image a.w a.h a.capture.now) = luma_front _ _ _ c.requires c.planes.ensures.luma_is in
-    let luma_length : length (take (a.w * a.h) c.planes.new.luma) ≡ a.w * a.h = ap length luma_is ∙ (planes_held _ _ _ c.requires).luma_long in
+    let luma_is : take (a.capture.w * a.capture.h) c.planes.new.luma ≡ luma_plane (picture a.capture) = luma_front _ _ _ c.requires c.planes.ensures.luma_is in
+    let luma_length : length (take (a.capture.w * a.capture.h) c.planes.new.luma) ≡ a.capture.w * a.capture.h = ap length luma_is ∙ (planes_held _ _ _ c.requires).luma_long in
     sym luma_length
 
 pub list-k-requires : goal.list-k-requires
 list-k-requires c =
     let a = c.args in
-    let mask_is : take (a.w * a.h) c.planes.new.mask ≡ mask_plane (image a.w a.h a.capture.now) a.frame = mask_front _ _ _ c.requires c.planes.ensures.mask_is in
+    let mask_is : take (a.capture.w * a.capture.h) c.planes.new.mask ≡ mask_plane (picture a.capture) a.frame.spec = mask_front _ _ _ c.requires c.planes.ensures.mask_is in
     let label_is :
-    Labels (mask_plane (image a.w a.h a.capture.now) a.frame) a.w a.h (patch_areas a.seen.now a.waiting.now a.patches.now)
+    Labels (mask_plane (picture a.capture) a.frame.spec) a.capture.w a.capture.h (patch_areas a.work.now.seen.now a.work.now.waiting.now a.work.now.patches.now)
     (patch_areas c.label-labelled.new.seen c.label-labelled.new.waiting c.label-labelled.new.patches) c.label-labelled.result.patches c.label-labelled.result.waited = labels_as mask_is c.label-labelled.ensures in
-    let luma_is : take (a.w * a.h) c.planes.new.luma ≡ luma_plane (image a.w a.h a.capture.now) = luma_front _ _ _ c.requires c.planes.ensures.luma_is in
+    let luma_is : take (a.capture.w * a.capture.h) c.planes.new.luma ≡ luma_plane (picture a.capture) = luma_front _ _ _ c.requires c.planes.ensures.luma_is in
     listable_as mask_is luma_is (listable _ _ _ c.requires label_is)
 
-pub returns : goal.returns
-returns c =
+pub returns-clause-looked : goal.returns-clause-looked
+returns-clause-looked c =
     let a = c.args in
-    let mask_is : take (a.w * a.h) c.planes.new.mask ≡ mask_plane (image a.w a.h a.capture.now) a.frame = mask_front _ _ _ c.requires c.planes.ensures.mask_is in
+    let mask_is : take (a.capture.w * a.capture.h) c.planes.new.mask ≡ mask_plane (picture a.capture) a.frame.spec = mask_front _ _ _ c.requires c.planes.ensures.mask_is in
     let label_is :
-    Labels (mask_plane (image a.w a.h a.capture.now) a.frame) a.w a.h (patch_areas a.seen.now a.waiting.now a.patches.now)
+    Labels (mask_plane (picture a.capture) a.frame.spec) a.capture.w a.capture.h (patch_areas a.work.now.seen.now a.work.now.waiting.now a.work.now.patches.now)
     (patch_areas c.label-labelled.new.seen c.label-labelled.new.waiting c.label-labelled.new.patches) c.label-labelled.result.patches c.label-labelled.result.waited = labels_as mask_is c.label-labelled.ensures in
-    let luma_is : take (a.w * a.h) c.planes.new.luma ≡ luma_plane (image a.w a.h a.capture.now) = luma_front _ _ _ c.requires c.planes.ensures.luma_is in
+    let luma_is : take (a.capture.w * a.capture.h) c.planes.new.luma ≡ luma_plane (picture a.capture) = luma_front _ _ _ c.requires c.planes.ensures.luma_is in
     looked _ _ _ c.requires c.planes.ensures label_is (candidates_as mask_is luma_is c.list-k.ensures)
