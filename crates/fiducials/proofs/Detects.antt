@@ -176,3 +176,8 @@ detection_found img f a b number n k waited s q e D =
       centers = λ x. D.centers x;
       none = λ x. D.none x;
     }
+
+-- a detection of a picture and a frame by what they are
+pub past_tests_as : {img img' : Image} {f f' : FrameSpec} {a b : Areas} {number n k waited : ℕ} {s : Places} {q : Quad} → img' ≡ img → f' ≡ f
+    → DetectionPastTests img' f' a b number n k waited s q → DetectionPastTests img f a b number n k waited s q
+past_tests_as d e r = rw (sym d, sym e) r

@@ -1,9 +1,9 @@
 // The corners among the candidates, and the whole detection behind `detect_fiducials`, for the
 // crates above.
 ghost use Rattle.std.specs.Prelude.{◌≡◌, ◌||◌, ◌+◌, ◌*◌, ◌≤◌, ◌<◌, eqb, length, get_or};
-ghost use Rattle.frame.specs.Image.{image};
+ghost use Rattle.view.specs.Views.{picture};
 ghost use Rattle.frame.specs.Refusals.{number_of};
-ghost use Rattle.candidates.specs.Areas.{areas};
+ghost use Rattle.candidates.specs.Lent.{areas_of, SameAreas};
 ghost use Rattle.candidates.specs.Bounds.{Ready};
 ghost use Rattle.candidates.specs.Ring.{center_at};
 ghost use Rattle.fiducials.specs.Answers.{quad_at, places_at, corners_of, places_of, quad_of};
@@ -12,8 +12,10 @@ ghost use Rattle.fiducials.specs.Promises.{DetectionPastTests};
 use super::pick::{Corner, pick};
 pub use super::quadrilateral::{one_way, too_small};
 use super::{Corners, Detected, Places};
+use candidates::WorkAreas;
 use candidates::internal::{center_at, look};
-use frame::{FrameSpec, Quad, Refusal};
+use frame::{CheckedFrame, Quad, Refusal};
+use view::RgbImage;
 
 // ---- the corners among k candidates
 
@@ -87,34 +89,22 @@ pub fn corners(
 
 // ---- the whole detection
 
-pub fn detect(
-    capture: &[u8],
-    w: usize,
-    h: usize,
-    frame: FrameSpec,
-    luma: &mut [f32],
-    integral: &mut [f64],
-    mask: &mut [u8],
-    seen: &mut [u8],
-    waiting: &mut [u32],
-    patches: &mut [u64],
-    candidates: &mut [f64],
-    blob_index: &mut [u32],
-) -> Detected
-    requires { Ready (image w h capture.now) frame
-        (areas luma.old integral.old mask.old seen.old waiting.old patches.old candidates.old
-        blob_index.old) }
-    ensures { DetectionPastTests (image w h capture.now) frame
-        (areas luma.old integral.old mask.old seen.old
-        waiting.old patches.old candidates.old blob_index.old)
-        (areas luma.new integral.new mask.new seen.new waiting.new
-        patches.new candidates.new blob_index.new)
+pub fn detect(capture: RgbImage, frame: CheckedFrame, work: &mut WorkAreas) -> Detected
+    requires { Ready (picture capture) frame.spec (areas_of work.old) }
+    ensures past_tests { DetectionPastTests (picture capture.entry) frame.spec (areas_of work.old) (areas_of work.new)
         (number_of result.corners) result.counts.patches result.counts.candidates result.counts.waited
         (places_of result.corners) (quad_of result.corners) }
+    ensures same { SameAreas work.new work.old }
 {
-    let counts = look(
-        capture, w, h, frame, luma, integral, mask, seen, waiting, patches, candidates, blob_index,
+    let counts = look(capture, frame, work);
+    let candidates = &mut *work.candidates;
+    let blob_index = &mut *work.blob_index;
+    let corners = corners(
+        candidates,
+        blob_index,
+        capture.w,
+        capture.h,
+        counts.candidates,
     );
-    let corners = corners(candidates, blob_index, w, h, counts.candidates);
     Detected { corners, counts }
 }

@@ -3,12 +3,12 @@
 
 ghost use Rattle.frame.specs.Image.{image};
 ghost use Rattle.frame.specs.Refusals.{number_of};
-ghost use Rattle.candidates.specs.Areas.{areas};
+ghost use Rattle.candidates.specs.Lent.{areas_of, SameAreas};
 ghost use Rattle.fiducials.specs.Answers.{places_of, quad_of};
 ghost use Rattle.fiducials.specs.Promises.{Detection};
 
-use candidates::internal::refused;
-use candidates::{Counts, Lengths};
+use candidates::internal::tested;
+use candidates::{Counts, WorkAreas};
 use frame::{FrameSpec, Quad, Refusal};
 use internal::detect;
 
@@ -45,33 +45,18 @@ pub fn detect_fiducials(
     w: usize,
     h: usize,
     frame: FrameSpec,
-    luma: &mut [f32],
-    integral: &mut [f64],
-    mask: &mut [u8],
-    seen: &mut [u8],
-    waiting: &mut [u32],
-    patches: &mut [u64],
-    candidates: &mut [f64],
-    blob_index: &mut [u32],
+    work: &mut WorkAreas,
 ) -> Detected
-    ensures { Detection (image w h capture.now) frame
-        (areas luma.old integral.old mask.old seen.old
-        waiting.old patches.old candidates.old blob_index.old)
-        (areas luma.new integral.new mask.new seen.new waiting.new
-        patches.new candidates.new blob_index.new)
+    ensures detection { Detection (image w h capture.now) frame (areas_of work.old) (areas_of work.new)
         (number_of result.corners) result.counts.patches result.counts.candidates result.counts.waited
         (places_of result.corners) (quad_of result.corners) }
+    ensures same { SameAreas work.new work.old }
 {
-    let lengths = Lengths::of(
-        luma, integral, mask, seen, waiting, patches, candidates, blob_index,
-    );
-    if let Err(refusal) = refused(capture, w, h, frame, lengths) {
-        return Detected {
+    match tested(capture, w, h, frame, work.lengths()) {
+        Ok((capture, frame)) => detect(capture, frame, work),
+        Err(refusal) => Detected {
             corners: Err(refusal),
             counts: Counts::default(),
-        };
+        },
     }
-    detect(
-        capture, w, h, frame, luma, integral, mask, seen, waiting, patches, candidates, blob_index,
-    )
 }

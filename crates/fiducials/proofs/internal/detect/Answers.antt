@@ -5,8 +5,8 @@ use Rattle.fiducials.proofs.internal.detect.Goals as goal
 pub corners-corners-requires : goal.corners-corners-requires
 corners-corners-requires c =
     let r = c.requires in
-    let room = candidates_room _ _ _ _ _ _ _ r c.look-counts.ensures in
+    let room = candidates_room _ _ _ _ _ _ _ r c.look-counts.ensures.looked in
     (r.capture.w_most, r.capture.h_most, room.0, room.1)
 
-pub returns : goal.returns
-returns c = detecting _ _ _ _ _ _ _ c.requires c.look-counts.ensures _ c.corners-corners.ensures
+pub returns-clause-past_tests : goal.returns-clause-past_tests
+returns-clause-past_tests c = detecting _ _ _ _ _ _ _ c.requires c.look-counts.ensures.looked _ c.corners-corners.ensures
