@@ -18,15 +18,15 @@ module _ (w h z : ℕ) where
 
   pub wrong_sides : sides_wrong w h ≡ true → 2 ≡ tests
   unfolding board_tests
-  wrong_sides e = sym (lowest_first 2 _ _ e)
+  wrong_sides e = sym (lowest_first _ _ _ e)
 
   pub short_mask : sides_wrong w h ≡ false → z < w * h → 3 ≡ tests
   unfolding board_tests
-  short_mask e l = sym (lowest_next 2 _ _ e ∙ lowest_first 3 _ _ (lt-ltb z (w * h) l))
+  short_mask e l = sym (lowest_next _ _ _ e ∙ lowest_first _ _ _ (lt-ltb z (w * h) l))
 
   pub long_enough : sides_wrong w h ≡ false → w * h ≤ z → 0 ≡ tests
   unfolding board_tests
-  long_enough e l = sym (lowest_next 2 _ _ e ∙ lowest_next 3 _ _ (le-ltb z (w * h) l) ∙ lowest_none)
+  long_enough e l = sym (lowest_next _ _ _ e ∙ lowest_next _ _ _ (le-ltb z (w * h) l) ∙ lowest_none)
 
   -- what passes the tests
   pub board_passes : tests ≡ 0 → (sides_wrong w h ≡ false) × (w * h ≤ z)

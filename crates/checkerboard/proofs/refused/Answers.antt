@@ -1,10 +1,10 @@
--- `checkerboard::refusal` meets its contract. Assumes nothing.
+-- `checkerboard::refused` meets its contract. Assumes nothing.
 use native.Mathlib.Nat.{mul-le-mul}
 use native.Mathlib.Omega.{arith}
 use mathlib.Core.Path.{sym, ◌∙◌}
 use Rattle.frame.proofs.Held.{sides_held}
-use Rattle.checkerboard.proofs.Refused.{wrong_sides, short_mask, long_enough}
-use Rattle.checkerboard.proofs.refusal.Goals as goal
+use Rattle.checkerboard.proofs.Refusing.{wrong_sides, short_mask, long_enough}
+use Rattle.checkerboard.proofs.refused.Goals as goal
 
 pub returns-then-sides_wrong : goal.returns-then-sides_wrong
 returns-then-sides_wrong c =
