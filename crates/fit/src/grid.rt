@@ -1,28 +1,25 @@
 // A cell's taps, and means and variances of floats.
 ghost use Rattle.std.specs.Prelude.{◌≡◌, ◌≤◌, ◌^◌, length};
 ghost use Rattle.frame.specs.Image.{outside};
-ghost use Rattle.frame.specs.Limits.{FrameHeld};
 ghost use Rattle.sampling.specs.Reading as reading;
 ghost use Rattle.fit.specs.Grid as spec;
 ghost use Rattle.fit.specs.Taps as taps;
 
 use crate::{GeometryFit, Grade};
-use frame::{FrameSpec, Point, Rgb};
+use frame::{CheckedFrame, Point, Rgb};
 
 // How many columns of cells are sampled: every third.
-pub fn across(frame: FrameSpec) -> usize
-    requires { FrameHeld frame }
-    ensures { (result ≡ spec.across frame) × (result ≤ 1366) }
+pub fn across(frame: CheckedFrame) -> usize
+    ensures { (result ≡ spec.across frame.spec) × (result ≤ 1366) }
 {
-    (frame::internal::cols(frame) + 2) / 3
+    (frame.cols() + 2) / 3
 }
 
 // How many rows are.
-pub fn down(frame: FrameSpec) -> usize
-    requires { FrameHeld frame }
-    ensures { (result ≡ spec.down frame) × (result ≤ 1366) }
+pub fn down(frame: CheckedFrame) -> usize
+    ensures { (result ≡ spec.down frame.spec) × (result ≤ 1366) }
 {
-    (frame::internal::rows(frame) + 2) / 3
+    (frame.rows() + 2) / 3
 }
 
 // Where the taps of a cell lie, as shares of the cell: the Rust's TAPS.
@@ -37,12 +34,12 @@ fn tap_share(n: usize) -> f64
 }
 
 // Where the fit puts tap i of the cell in column c and row r.
-pub fn tap_place(frame: FrameSpec, fit: GeometryFit, c: usize, r: usize, i: usize) -> Point
-    requires { FrameHeld frame × (c ≤ 4096) × (r ≤ 4096) }
-    ensures { result ≡ spec.tap_place frame fit c r i }
+pub fn tap_place(frame: CheckedFrame, fit: GeometryFit, c: usize, r: usize, i: usize) -> Point
+    requires { (c ≤ 4096) × (r ≤ 4096) }
+    ensures { result ≡ spec.tap_place frame.spec fit c r i }
 {
-    let origin = frame::internal::cell_origin(frame, c, r);
-    let cell = frame.cell as f64;
+    let origin = frame.cell_origin(c, r);
+    let cell = frame.spec.cell as f64;
     let p = Point {
         x: origin.x as f64 + tap_share(i % 3) * cell,
         y: origin.y as f64 + tap_share(i / 3) * cell,

@@ -1,16 +1,17 @@
 // What the crates above call with tested arguments.
 ghost use Rattle.std.specs.Prelude.{◌≡◌, ◌≤◌, length};
-ghost use Rattle.frame.specs.Image.{image};
-ghost use Rattle.frame.specs.Limits.{FrameHeld, SidesHeld, CaptureHeld};
+ghost use Rattle.frame.specs.Limits.{SidesHeld};
+ghost use Rattle.view.specs.Views.{picture};
 ghost use Rattle.fit.specs.Grid.{grade_of, score_of};
 ghost use Rattle.fit.specs.Fits as spec;
 ghost use Rattle.fit.specs.Promises.{sampled_cells};
 
 pub use super::numbers::{fit_numbers, fit_of, grade_number, matrix_of};
 use crate::{Fitted, GeometryFit, Grade, grid};
-use frame::{FrameSpec, Quad, Refusal};
+use frame::{CheckedFrame, Quad, Refusal};
 use homography::Homography;
 use radial::Radial;
+use view::RgbImage;
 
 // The four centres without the lens.
 fn undistorted(lens: Radial, q: Quad) -> Quad
@@ -50,9 +51,9 @@ pub fn unfitted(refusal: Refusal) -> Fitted
 }
 
 // The fit for a lens term, or refusal 10.
-pub fn fitted(w: usize, h: usize, frame: FrameSpec, quad: Quad, k: f64) -> Fitted
-    requires { SidesHeld w h × FrameHeld frame }
-    ensures { result ≡ spec.fitted_for w h frame quad k }
+pub fn fitted(w: usize, h: usize, frame: CheckedFrame, quad: Quad, k: f64) -> Fitted
+    requires { SidesHeld w h }
+    ensures { result ≡ spec.fitted_for w h frame.spec quad k }
 {
     let lens = radial::internal::lens(w, h, k);
     let centers = markers::internal::centers(frame);
@@ -70,26 +71,18 @@ pub fn fitted(w: usize, h: usize, frame: FrameSpec, quad: Quad, k: f64) -> Fitte
 }
 
 // How many cells are sampled, and so how long the area of means is at least.
-pub fn sampled_cells(frame: FrameSpec) -> usize
-    requires { FrameHeld frame }
-    ensures { (result ≡ sampled_cells frame) × (result ≤ 1865956) }
+pub fn sampled_cells(frame: CheckedFrame) -> usize
+    ensures { (result ≡ sampled_cells frame.spec) × (result ≤ 1865956) }
 {
     grid::down(frame) * grid::across(frame)
 }
 
 // The grid score: the first tap outside the picture ends the walks over taps, columns and rows.
-pub fn grade(
-    capture: &[u8],
-    w: usize,
-    h: usize,
-    frame: FrameSpec,
-    fit: GeometryFit,
-    means: &mut [f64],
-) -> Grade
-    requires { CaptureHeld (image w h capture.now) × FrameHeld frame × (length means.old ≡ sampled_cells frame) }
-    ensures { result ≡ grade_of (image w h capture.now) frame fit }
+pub fn grade(capture: RgbImage, frame: CheckedFrame, fit: GeometryFit, means: &mut [f64]) -> Grade
+    requires { length means.old ≡ sampled_cells frame.spec }
+    ensures { result ≡ grade_of (picture capture.entry) frame.spec fit }
 {
-    let cols = frame::internal::cols(frame);
+    let cols = frame.cols();
     let across = grid::across(frame);
     let down = grid::down(frame);
     let mut outside = None;
@@ -101,8 +94,8 @@ pub fn grade(
             let mut taps = [0.0; 9];
             'taps: for i in 0..9 {
                 let p = grid::tap_place(frame, fit, c, r, i);
-                let s = sampling::internal::sample(capture, w, h, p);
-                if grid::tap_outside(w, h, p, s.inside) {
+                let s = sampling::internal::sample(capture, p);
+                if grid::tap_outside(capture.w, capture.h, p, s.inside) {
                     outside = Some(r * cols + c);
                     break 'rows;
                 }

@@ -11,9 +11,10 @@ ghost use Rattle.fit.specs.Grid.{placed};
 ghost use Rattle.fit.specs.Fits.{fit_for};
 ghost use Rattle.fit.specs.Promises as contracts;
 
-use frame::{FrameSpec, Point, Quad, Refusal};
+use frame::{CheckedFrame, FrameSpec, Point, Quad, Refusal};
 use homography::Homography;
 use radial::Radial;
+use view::RgbImage;
 
 // Canonical to capture: homography, then lens.
 #[derive(Clone, Copy)]
@@ -43,9 +44,10 @@ pub enum Grade {
 pub fn fit_for(w: usize, h: usize, frame: FrameSpec, points: Quad, k: f64) -> Fitted
     ensures { result ≡ contracts.fitted_by (contracts.fit_for_tests w h frame points k) (fit_for w h frame points k) }
 {
-    if frame::internal::frame_outside(frame) {
-        return internal::unfitted(Refusal::FrameOutside);
-    }
+    let frame = match CheckedFrame::new(frame) {
+        Ok(frame) => frame,
+        Err(refusal) => return internal::unfitted(refusal),
+    };
     if frame::internal::sides_wrong(w, h) {
         return internal::unfitted(Refusal::CaptureWrong);
     }
@@ -68,17 +70,13 @@ pub fn grid_score(
     ensures { contracts.Scoring (image w h capture.now) frame fit means.old
         means.new result }
 {
-    if frame::internal::frame_outside(frame) {
-        return Err(Refusal::FrameOutside);
-    }
-    if frame::internal::capture_wrong(capture, w, h) {
-        return Err(Refusal::CaptureWrong);
-    }
+    let frame = CheckedFrame::new(frame)?;
+    let capture = RgbImage::new(capture, w, h)?;
     let n = internal::sampled_cells(frame);
     if means.len() < n {
         return Err(Refusal::AreaShort);
     }
-    Ok(internal::grade(capture, w, h, frame, fit, &mut means[..n]))
+    Ok(internal::grade(capture, frame, fit, &mut means[..n]))
 }
 
 impl GeometryFit {

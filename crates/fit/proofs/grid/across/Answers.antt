@@ -7,8 +7,8 @@ use Prim.Native.Nat.{◌+◌, ◌/◌}
 use Rattle.fit.proofs.grid.across.Goals as goal
 
 pub overflow_add-result : goal.overflow_add-result
-overflow_add-result c = record { fits = omega (arith, cols_most c.args.frame c.requires, c.cols.ensures) }
+overflow_add-result c = record { fits = omega (arith, cols_most c.args.frame.spec c.args.frame.held, c.cols.ensures) }
 
 pub returns : goal.returns
 unfolding across
-returns c = (ap (λ n. (n + 2) / 3) c.cols.ensures, omega (arith, cols_most c.args.frame c.requires, c.cols.ensures))
+returns c = (ap (λ n. (n + 2) / 3) c.cols.ensures, omega (arith, cols_most c.args.frame.spec c.args.frame.held, c.cols.ensures))

@@ -7,8 +7,8 @@ use Prim.Native.Nat.{◌+◌, ◌/◌}
 use Rattle.fit.proofs.grid.down.Goals as goal
 
 pub overflow_add-result : goal.overflow_add-result
-overflow_add-result c = record { fits = omega (arith, rows_most c.args.frame c.requires, c.rows.ensures) }
+overflow_add-result c = record { fits = omega (arith, rows_most c.args.frame.spec c.args.frame.held, c.rows.ensures) }
 
 pub returns : goal.returns
 unfolding down
-returns c = (ap (λ n. (n + 2) / 3) c.rows.ensures, omega (arith, rows_most c.args.frame c.requires, c.rows.ensures))
+returns c = (ap (λ n. (n + 2) / 3) c.rows.ensures, omega (arith, rows_most c.args.frame.spec c.args.frame.held, c.rows.ensures))

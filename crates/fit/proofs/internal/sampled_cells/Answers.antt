@@ -10,7 +10,7 @@ use Rattle.fit.proofs.internal.sampled_cells.Goals as goal
 pub returns : goal.returns
 unfolding sampled_cells
 returns c = (
-  ap (λ z. z * c.across.result) c.down.ensures.0 ∙ ap (λ z. down c.args.frame * z)
+  ap (λ z. z * c.across.result) c.down.ensures.0 ∙ ap (λ z. down c.args.frame.spec * z)
       c.across.ensures.0,
   product_le c.down.result c.across.result 1366 1366 (omega arith) (omega arith),
 )
