@@ -1,32 +1,24 @@
 // What the crates above call with tested arguments.
 ghost use Rattle.std.specs.Prelude.{◌≡◌, length};
-ghost use Rattle.frame.specs.Image.{image};
-ghost use Rattle.frame.specs.Limits.{FrameHeld, CaptureHeld};
+ghost use Rattle.view.specs.Views.{picture};
 ghost use Rattle.fit.specs.Promises.{sampled_cells};
 ghost use Rattle.search.specs.Stages as spec;
 ghost use Rattle.search.specs.Turn as state;
 
 use crate::{Outcome, Search, Stage, Trial, stages};
 use fit::internal::{fitted, grade};
-use frame::{FrameSpec, Quad};
+use frame::{CheckedFrame, Quad};
+use view::RgbImage;
 
 // The trial of a lens term.
 #[tactic(auto, unfolding(crate::specs::Turn::trial_of, fit::specs::Fits::fitted_for, fit::specs::Fits::unfitted))]
-fn trial(
-    capture: &[u8],
-    w: usize,
-    h: usize,
-    frame: FrameSpec,
-    quad: Quad,
-    k: f64,
-    means: &mut [f64],
-) -> Trial
-    requires { CaptureHeld (image w h capture.now) × FrameHeld frame × (length means.old ≡ sampled_cells frame) }
-    ensures { result ≡ state.trial_of (image w h capture.now) frame quad k }
+fn trial(capture: RgbImage, frame: CheckedFrame, quad: Quad, k: f64, means: &mut [f64]) -> Trial
+    requires { length means.old ≡ sampled_cells frame.spec }
+    ensures { result ≡ state.trial_of (picture capture.entry) frame.spec quad k }
 {
-    let fitted = fitted(w, h, frame, quad, k);
+    let fitted = fitted(capture.w, capture.h, frame, quad, k);
     let outcome = match fitted.verdict {
-        Ok(()) => Outcome::Graded(grade(capture, w, h, frame, fitted.fit, means)),
+        Ok(()) => Outcome::Graded(grade(capture, frame, fitted.fit, means)),
         Err(_) => Outcome::NoHomography,
     };
     Trial {
@@ -51,24 +43,21 @@ pub fn begin() -> Search
 // One trial more, unless the search has ended.
 #[tactic(auto, using(crate::proofs::Cases::staged_trial), unfolding(crate::specs::Turn::turn_of))]
 pub fn turn(
-    capture: &[u8],
-    w: usize,
-    h: usize,
-    frame: FrameSpec,
+    capture: RgbImage,
+    frame: CheckedFrame,
     quad: Quad,
     search: Search,
     means: &mut [f64],
 ) -> Search
-    requires { CaptureHeld (image w h capture.now) × FrameHeld frame × state.Counting search
-        × (length means.old ≡ sampled_cells frame) }
-    ensures { result ≡ state.turn_of (image w h capture.now) frame quad search }
+    requires { state.Counting search × (length means.old ≡ sampled_cells frame.spec) }
+    ensures { result ≡ state.turn_of (picture capture.entry) frame.spec quad search }
 {
     if search.ended {
         return search;
     }
     let k = stages::k_at(search.number, search.center, search.entry);
     let counted = stages::fresh(search.number, search.center, search.entry);
-    let trial = trial(capture, w, h, frame, quad, k, means);
+    let trial = trial(capture, frame, quad, k, means);
     stages::advance(search, stages::keep(trial, counted, search.stage))
 }
 
@@ -80,20 +69,13 @@ pub fn result(search: Search) -> Stage
 }
 
 // The lens search: turns until it ends.
-pub fn search(
-    capture: &[u8],
-    w: usize,
-    h: usize,
-    frame: FrameSpec,
-    quad: Quad,
-    means: &mut [f64],
-) -> Stage
-    requires { CaptureHeld (image w h capture.now) × FrameHeld frame × (length means.old ≡ sampled_cells frame) }
-    ensures { result ≡ spec.searched (image w h capture.now) frame quad }
+pub fn search(capture: RgbImage, frame: CheckedFrame, quad: Quad, means: &mut [f64]) -> Stage
+    requires { length means.old ≡ sampled_cells frame.spec }
+    ensures { result ≡ spec.searched (picture capture.entry) frame.spec quad }
 {
     let mut s = begin();
     while !s.ended {
-        s = turn(capture, w, h, frame, quad, s, means);
+        s = turn(capture, frame, quad, s, means);
     }
     result(s)
 }

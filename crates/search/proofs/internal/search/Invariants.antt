@@ -1,11 +1,11 @@
 -- `search::internal::search` meets its contract. Assumes nothing.
-use Rattle.frame.specs.Image.{image}
+use Rattle.view.specs.Views.{picture}
 use Rattle.search.proofs.Turning.{Reached, Held, left}
 use Rattle.search.proofs.internal.search.Given as goal
 
 abbrev pub invariant-loop-s : goal.invariant-loop-s
 invariant-loop-s l = record {
-  reached : Reached (image l.w l.h l.capture) l.frame l.quad l.s;
+  reached : Reached (picture l.capture) l.frame.spec l.quad l.s;
   held : Held l.s;
 }
 
