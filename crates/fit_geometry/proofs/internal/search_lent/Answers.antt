@@ -7,18 +7,15 @@ use lib.Seq.{length-take-le, length_front}
 use Rattle.base.proofs.Parts.{lent_rest}
 use Rattle.fit_geometry.proofs.internal.search_lent.Goals as goal
 
-pub sampled_cells-n-requires : goal.sampled_cells-n-requires
-sampled_cells-n-requires c = c.requires.1
-
 pub slice_bounds-search-end-2 : goal.slice_bounds-search-end-2
 slice_bounds-search-end-2 c =
-    let long : c.sampled_cells-n.result ≤ length c.args.means.now = omega (arith, c.requires.2, c.sampled_cells-n.ensures.0) in
+    let long : c.sampled_cells-n.result ≤ length c.args.means.now = omega (arith, c.requires, c.sampled_cells-n.ensures.0) in
     sym (length-take-le _ _ (long))
 
 pub search-requires : goal.search-requires
 search-requires c =
-    let long : c.sampled_cells-n.result ≤ length c.args.means.now = omega (arith, c.requires.2, c.sampled_cells-n.ensures.0) in
-    let p = c.requires in (p.0, p.1, length-take-le _ _ (long) ∙ c.sampled_cells-n.ensures.0)
+    let long : c.sampled_cells-n.result ≤ length c.args.means.now = omega (arith, c.requires, c.sampled_cells-n.ensures.0) in
+    length-take-le _ _ (long) ∙ c.sampled_cells-n.ensures.0
 
 pub shape_of-means : goal.shape_of-means
 shape_of-means c =
@@ -28,7 +25,7 @@ shape_of-means c =
 
 pub returns : goal.returns
 returns c =
-    let long : c.sampled_cells-n.result ≤ length c.args.means.now = omega (arith, c.requires.2, c.sampled_cells-n.ensures.0) in
+    let long : c.sampled_cells-n.result ≤ length c.args.means.now = omega (arith, c.requires, c.sampled_cells-n.ensures.0) in
     let n = c.sampled_cells-n.result in
     let x = c.search.new.means in
     let l = c.args.means.now in
