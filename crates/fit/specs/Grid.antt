@@ -110,6 +110,7 @@ abbrev pub grade_from : Walk → Grade → Grade
 grade_from (Ended cell) g = Outside cell
 grade_from Going g = g
 
+-- [11.3] .. of n cells without a tap outside
 abbrev pub grade_inside : ℕ → Float → Grade
 grade_inside n score = cond (ltb n 16) TooFew (Score score)
 
