@@ -182,7 +182,8 @@ module _ (img : Image) (f : FrameSpec) {t t' : List Check} {a a' b b' : Areas} {
       let x' : 1 ≤ h'.number = omega (arith, same_number) in
       let y' : h'.number ≤ 6 = omega (arith, same_number) in
       let u' = h'.untouched x' y' in
-      (h.untried x (omega arith) ∙ sym (h'.untried x' (omega arith)), h.nowhere x ∙ sym (h'.nowhere x'), λ i. record { patches = (u.2 ∙ sym u'.2) i; candidates = (u.3 ∙ sym u'.3) i; waited = (u.4 ∙ sym u'.4) i })
+      let n : r.counts ≡ r'.counts = λ i. record { patches = (u.2 ∙ sym u'.2) i; candidates = (u.3 ∙ sym u'.3) i; waited = (u.4 ∙ sym u'.4) i } in
+      (h.untried x (omega arith) ∙ sym (h'.untried x' (omega arith)), h.nowhere x ∙ sym (h'.nowhere x'), n)
   parts (high z) =
       (tried_agree z, h.nowhere (omega arith) ∙ sym (h'.nowhere (omega (arith, same_number))), counts img f r r' (h.refused z) (h'.refused (subst (λ k. 7 ≤ k) same_number z)))
 
