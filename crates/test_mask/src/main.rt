@@ -3,36 +3,35 @@
 // again.
 #![tactic(auto)]
 
-ghost use Rattle.std.specs.Prelude.{◌≤◌, ◌≡◌, length};
-
 use console::Console;
-use frame::FrameSpec;
+use frame::{CheckedFrame, FrameSpec};
 use std::io;
+use view::RgbImage;
 
 fn main(rt: HostRuntime) -> io::Result<()> {
     let mut console = Console::new(rt);
     let mut buf = [0u8; 65536];
     let n = console.read_full(&mut buf);
-    if n == 4320 {
-        planes(&mut console, &buf[..n]);
-    }
+    planes(&mut console, &buf[..n]);
     console.finish()
 }
 
-// Each area has eight entries more than it needs, and holds what no plane has.
-fn planes(console: &mut Console, capture: &[u8])
-    requires { length capture.now ≡ 4320 }
-{
-    let mut luma = [1.0f32; 1448];
-    let mut integral = [0.0 / 0.0; 1525];
-    let mut mask = [7u8; 1448];
+// Each area has eight entries more than it needs, and holds what no plane has. Bytes that are no
+// such picture print nothing.
+fn planes(console: &mut Console, capture: &[u8]) {
     let frame = FrameSpec {
         width: 192,
         height: 192,
         cell: 1,
         margin: 48,
     };
-    mask::internal::planes(capture, 40, 36, frame, &mut luma, &mut integral, &mut mask);
+    let (Ok(capture), Ok(frame)) = (RgbImage::new(capture, 40, 36), CheckedFrame::new(frame)) else {
+        return;
+    };
+    let mut luma = [1.0f32; 1448];
+    let mut integral = [0.0 / 0.0; 1525];
+    let mut mask = [7u8; 1448];
+    mask::internal::planes(capture, frame, &mut luma, &mut integral, &mut mask);
     print_luma(console, &luma);
     print_integral(console, &integral[1476..]);
     print_mask(console, &mask);
