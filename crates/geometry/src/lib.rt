@@ -2,18 +2,17 @@
 #![tactic(auto)]
 
 ghost use Rattle.frame.specs.Image.{image};
-ghost use Rattle.candidates.specs.Areas.{areas};
+ghost use Rattle.candidates.specs.Lent.{areas_of, SameAreas};
 ghost use Rattle.geometry.specs.Promises.{Warping, RecordWarping};
 ghost use Rattle.geometry.specs.Rectification.{Rectification, lent};
 
 use book::FitRecord;
-use candidates::Lengths;
+use candidates::WorkAreas;
 use fit::GeometryFit;
 use fit_geometry::PictureFit;
-use fit_geometry::internal::{answer, fit_picture, refused_by_test};
-use frame::internal::{capture_wrong, frame_outside};
-use frame::{FrameSpec, Number};
-use internal::{canonical_wrong, lay, refused, scored, warp};
+use fit_geometry::internal::{fit_picture, refused_by_test};
+use frame::{FrameSpec, Refusal};
+use internal::{lay, scored, tested, warp, warp_tested};
 
 pub mod internal;
 
@@ -34,20 +33,12 @@ pub fn warp_with(
     frame: FrameSpec,
     fit: GeometryFit,
     canonical: &mut [u8],
-) -> Number
+) -> Result<usize, Refusal>
     ensures { Warping (image w h capture.now) frame fit canonical.old
         canonical.new result }
 {
-    if frame_outside(frame) {
-        return Number::Refused(1);
-    }
-    if capture_wrong(capture, w, h) {
-        return Number::Refused(2);
-    }
-    if canonical_wrong(frame, canonical.len()) {
-        return Number::Refused(4);
-    }
-    Number::Is(warp(capture, w, h, frame, fit, canonical))
+    let (capture, frame) = warp_tested(capture, w, h, frame, canonical)?;
+    Ok(warp(capture, frame, fit, canonical))
 }
 
 // The same under the fit that a book's record keeps; its panel and camera are not looked at. A
@@ -59,24 +50,15 @@ pub fn warp_record(
     frame: FrameSpec,
     kept: FitRecord,
     canonical: &mut [u8],
-) -> Number
+) -> Result<usize, Refusal>
     ensures { RecordWarping (image w h capture.now) frame kept canonical.old
         canonical.new result }
 {
-    if frame_outside(frame) {
-        return Number::Refused(1);
-    }
-    if capture_wrong(capture, w, h) {
-        return Number::Refused(2);
-    }
-    if canonical_wrong(frame, canonical.len()) {
-        return Number::Refused(4);
-    }
+    let (capture, frame) = warp_tested(capture, w, h, frame, canonical)?;
     if kept.grade != 0 {
-        return Number::Refused(16);
+        return Err(Refusal::Unscored);
     }
-    let fit = kept.fit();
-    Number::Is(warp(capture, w, h, frame, fit, canonical))
+    Ok(warp(capture, frame, kept.fit(), canonical))
 }
 
 // Finds the card in a capture and lays it flat. Refusals 1 to 10, and 16 for a fit whose kept trial
@@ -86,53 +68,27 @@ pub fn rectify(
     w: usize,
     h: usize,
     frame: FrameSpec,
-    luma: &mut [f32],
-    integral: &mut [f64],
-    mask: &mut [u8],
-    seen: &mut [u8],
-    waiting: &mut [u32],
-    patches: &mut [u64],
-    candidates: &mut [f64],
-    blob_index: &mut [u32],
+    work: &mut WorkAreas,
     means: &mut [f64],
     canonical: &mut [u8],
 ) -> Rectified
-    ensures { Rectification (image w h capture.now) frame
-        (lent (areas luma.old integral.old mask.old seen.old
-        waiting.old patches.old candidates.old blob_index.old)
-        means.old canonical.old)
-        (lent (areas luma.new integral.new mask.new seen.new
-        waiting.new patches.new candidates.new blob_index.new)
-        means.new canonical.new)
+    ensures rectification { Rectification (image w h capture.now) frame
+        (lent (areas_of work.old) means.old canonical.old)
+        (lent (areas_of work.new) means.new canonical.new)
         result.picture result.beyond }
+    ensures same { SameAreas work.new work.old }
 {
-    let lengths = Lengths {
-        luma: luma.len(),
-        integral: integral.len(),
-        mask: mask.len(),
-        seen: seen.len(),
-        waiting: waiting.len(),
-        patches: patches.len(),
-        candidates: candidates.len(),
-        blob_index: blob_index.len(),
-    };
-    let number = refused(capture, w, h, frame, lengths, means.len(), canonical.len());
-    if number != 0 {
-        let refusal = refused_by_test(number);
-        return Rectified {
-            picture: refusal,
+    let lengths = work.lengths();
+    match tested(capture, w, h, frame, lengths, means.len(), canonical.len()) {
+        Err(refusal) => Rectified {
+            picture: refused_by_test(refusal),
             beyond: 0,
-        };
-    }
-    let found = fit_picture(
-        capture, w, h, frame, luma, integral, mask, seen, waiting, patches, candidates, blob_index,
-        means,
-    );
-    let report = scored(found);
-    let beyond = lay(capture, w, h, frame, report, canonical);
-    let picture = answer(report);
-    Rectified {
-        picture: picture,
-        beyond: beyond,
+        },
+        Ok((capture, frame)) => {
+            let found = fit_picture(capture, frame, work, means);
+            let picture = scored(found);
+            let beyond = lay(capture, frame, picture, canonical);
+            Rectified { picture, beyond }
+        }
     }
 }

@@ -1,58 +1,41 @@
 -- `geometry::rectify` meets its contract. Assumes nothing.
-use mathlib.Core.Path.{sym, ◌∙◌}
+use mathlib.Core.Path.{sym, ap}
+use native.Mathlib.Omega.{arith}
+use Rattle.fit.specs.Promises.{sampled_cells}
+use Rattle.candidates.proofs.Looks.{ready_as}
+use Rattle.candidates.specs.Lent.{areas_of}
+use Rattle.fit_geometry.proofs.PastTests.{fit_past_as}
 use Rattle.geometry.specs.Rectification.{lent}
-use Rattle.candidates.specs.Areas.{areas}
-use Rattle.geometry.proofs.Rectifying.{passed, rectify_refused, rectify_reported}
+use Rattle.geometry.proofs.Given.{canonical_as}
+use Rattle.geometry.proofs.Rectifying.{passed, rectify_refused, rectify_found, by_lengths, laid_as, beyond_where_as}
 use Rattle.geometry.proofs.rectify.Goals as goal
 
-pub returns-then-number-ne0 : goal.returns-then-number-ne0
-returns-then-number-ne0 c = rectify_refused _ _ _ _ _ c.refused-number.ensures c.if-number-ne0.true c.refused_by_test-refusal.ensures
+pub returns-in-Err-clause-rectification : goal.returns-in-Err-clause-rectification
+returns-in-Err-clause-rectification c =
+    let a = c.args in
+    rectify_refused _ _ (lent (areas_of a.work.now) a.means.now a.canonical.now) _
+    (by_lengths _ _ (lent (areas_of a.work.now) a.means.now a.canonical.now) c.lengths-lengths.ensures c.in-Err.ensures.number) c.refused_by_test.ensures
 
 pub fit_picture-found-requires : goal.fit_picture-found-requires
 fit_picture-found-requires c =
     let a = c.args in
-    let p = passed _ _ (lent (areas a.luma.now a.integral.now a.mask.now a.seen.now a.waiting.now a.patches.now a.candidates.now a.blob_index.now) a.means.now a.canonical.now) (sym c.refused-number.ensures ∙ c.if-number-ne0.false) in
-    (p.ready, p.means_room)
+    let t = c.in-Ok.ensures in
+    let l = lent (areas_of a.work.now) a.means.now a.canonical.now in
+    let p = passed _ _ l (sym (by_lengths _ _ l c.lengths-lengths.ensures t.number)) in
+    (ready_as t.value.0 t.value.1 p.ready, omega (arith, p.means_room, ap sampled_cells t.value.1))
 
 pub lay-beyond-requires : goal.lay-beyond-requires
 lay-beyond-requires c =
     let a = c.args in
-    let p = passed _ _ (lent (areas a.luma.now a.integral.now a.mask.now a.seen.now a.waiting.now a.patches.now a.candidates.now a.blob_index.now) a.means.now a.canonical.now) (sym c.refused-number.ensures ∙ c.if-number-ne0.false) in
-    (p.ready.capture, p.ready.frame, p.canonical_long)
+    let t = c.in-Ok.ensures in
+    let l = lent (areas_of a.work.now) a.means.now a.canonical.now in
+    let p = passed _ _ l (sym (by_lengths _ _ l c.lengths-lengths.ensures t.number)) in
+    canonical_as _ t.value.1 p.canonical_long
 
-pub shape_of-luma : goal.shape_of-luma
-shape_of-luma c = c.fit_picture-found.auto.luma
-
-pub shape_of-integral : goal.shape_of-integral
-shape_of-integral c = c.fit_picture-found.auto.integral
-
-pub shape_of-mask : goal.shape_of-mask
-shape_of-mask c = c.fit_picture-found.auto.mask
-
-pub shape_of-seen : goal.shape_of-seen
-shape_of-seen c = c.fit_picture-found.auto.seen
-
-pub shape_of-waiting : goal.shape_of-waiting
-shape_of-waiting c = c.fit_picture-found.auto.waiting
-
-pub shape_of-patches : goal.shape_of-patches
-shape_of-patches c = c.fit_picture-found.auto.patches
-
-pub shape_of-candidates : goal.shape_of-candidates
-shape_of-candidates c = c.fit_picture-found.auto.candidates
-
-pub shape_of-blob_index : goal.shape_of-blob_index
-shape_of-blob_index c = c.fit_picture-found.auto.blob_index
-
-pub shape_of-means : goal.shape_of-means
-shape_of-means c = c.fit_picture-found.auto.means
-
-pub shape_of-canonical : goal.shape_of-canonical
-shape_of-canonical c = c.lay-beyond.auto.canonical
-
-pub returns : goal.returns
-returns c =
+pub returns-in-Ok-clause-rectification : goal.returns-in-Ok-clause-rectification
+returns-in-Ok-clause-rectification c =
     let a = c.args in
-    rectify_reported _ _ (lent (areas a.luma.now a.integral.now a.mask.now a.seen.now a.waiting.now a.patches.now a.candidates.now a.blob_index.now) a.means.now a.canonical.now) _ _ _ (sym c.refused-number.ensures ∙ c.if-number-ne0.false)
-    c.fit_picture-found.ensures _ _ _ _ c.scored-report.ensures c.lay-beyond.ensures.1 c.answer-picture.ensures
-    c.lay-beyond.ensures.0
+    let t = c.in-Ok.ensures in
+    let l = lent (areas_of a.work.now) a.means.now a.canonical.now in
+    rectify_found _ _ l _ _ _ (sym (by_lengths _ _ l c.lengths-lengths.ensures t.number)) (fit_past_as t.value.0 t.value.1 c.fit_picture-found.ensures.past_tests)
+    c.scored-picture.ensures (laid_as _ _ _ t.value.0 t.value.1 c.lay-beyond.ensures.1) (beyond_where_as _ _ t.value.0 t.value.1 c.lay-beyond.ensures.0)

@@ -7,4 +7,4 @@ use Rattle.geometry.proofs.internal.canonical_wrong.Goals as goal
 pub overflow_mul-result-2 : goal.overflow_mul-result-2
 overflow_mul-result-2 c =
     let a = c.args in
-    record { fits = omega (arith, product_le (3 * a.frame.width) a.frame.height 12288 4096 (omega arith) (omega arith)) }
+    record { fits = omega (arith, product_le (3 * a.frame.spec.width) a.frame.spec.height 12288 4096 (omega arith) (omega arith)) }
