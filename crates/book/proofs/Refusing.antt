@@ -173,7 +173,9 @@ module _ {A : Type 0} (v : A) (heads numbers : List ℕ) (count : ℕ) (book : L
 
     module _ (m : count ≤ 35791393) (g : grades_held heads count ≡ true) where
       graded : {x : Result A Refusal} → x ≡ answer_for (check KeysFall unsorted ∷ []) v → x ≡ answer_for (write_tests heads numbers count book) v
-      graded e = held (answer_next v Malformed wrong (check KeysFall unsorted ∷ []) (or_neither long (not (grades_held heads count)) (le-ltb 4294967295 (book_length count) (omega arith)) (ap not g)) e)
+      graded e =
+          held (answer_next v Malformed wrong (check KeysFall unsorted ∷ [])
+          (or_neither long (not (grades_held heads count)) (le-ltb 4294967295 (book_length count) (omega arith)) (ap not g)) e)
 
       pub unsorted_gives : keys_rise (key_at heads) count ≡ false → Err KeysFall ≡ answer_for (write_tests heads numbers count book) v
       unsorted_gives e = graded (answer_first v KeysFall unsorted [] (ap not e))

@@ -44,7 +44,8 @@ module _ {A B : Type 0} where
   refused_before [] q v w e = cc
   refused_before (c ∷ p) q v w {r} e = go c.holds (refused_before p q v w) e
     where
-      go : (b : Bool) → (answer_for p v ≡ Err r → answer_for (p ++ q) w ≡ Err r) → cond b (Err c.refusal) (answer_for p v) ≡ Err r → cond b (Err c.refusal) (answer_for (p ++ q) w) ≡ Err r
+      go : (b : Bool) → (answer_for p v ≡ Err r → answer_for (p ++ q) w ≡ Err r) → cond b (Err c.refusal) (answer_for p v) ≡ Err r
+          → cond b (Err c.refusal) (answer_for (p ++ q) w) ≡ Err r
       go true h d = cc
       go false h d = h d
 
@@ -53,7 +54,8 @@ module _ {A B : Type 0} where
   accepted_before [] q v w e = refl
   accepted_before (c ∷ p) q v w {x} e = go c.holds (accepted_before p q v w) e
     where
-      go : (b : Bool) → (answer_for p v ≡ Ok x → answer_for (p ++ q) w ≡ answer_for q w) → cond b (Err c.refusal) (answer_for p v) ≡ Ok x → cond b (Err c.refusal) (answer_for (p ++ q) w) ≡ answer_for q w
+      go : (b : Bool) → (answer_for p v ≡ Ok x → answer_for (p ++ q) w ≡ answer_for q w) → cond b (Err c.refusal) (answer_for p v) ≡ Ok x
+          → cond b (Err c.refusal) (answer_for (p ++ q) w) ≡ answer_for q w
       go true h d = cc
       go false h d = h d
 

@@ -12,14 +12,6 @@ use Rattle.book.proofs.keys.keys_rise.Goals as goal
 pub loop-j-init : goal.loop-j-init
 loop-j-init g c = (λ f h. every_begin (rises_at f), omega arith)
 
-pub returns-then-not-rises : goal.returns-then-not-rises
-unfolding keys_rise
-returns-then-not-rises g c = λ f h.
-    let j = c.loop-j.j in
-    let e = below_next f c.key.result c.key-in-loop-j.result j c.loop-j.auto.j (h (j - 1) _ (omega arith) c.key.ensures) (h j _ (omega arith) c.key-in-loop-j.ensures) in
-    let stops : rises_at f (j - 1) ≡ false = cc in
-    sym (every_stops (rises_at f) (j - 1) (c.args.count - 1) (omega arith) stops)
-
 pub loop-j-preserved : goal.loop-j-preserved
 loop-j-preserved g c = (
   λ f h.
@@ -30,6 +22,14 @@ loop-j-preserved g c = (
       subst (λ k. every k (rises_at f) ≡ true) q (every_more (rises_at f) (j - 1) (c.loop-j.invariant.0 f h) more),
   omega arith,
 )
+
+pub returns-then-not-rises : goal.returns-then-not-rises
+unfolding keys_rise
+returns-then-not-rises g c = λ f h.
+    let j = c.loop-j.j in
+    let e = below_next f c.key.result c.key-in-loop-j.result j c.loop-j.auto.j (h (j - 1) _ (omega arith) c.key.ensures) (h j _ (omega arith) c.key-in-loop-j.ensures) in
+    let stops : rises_at f (j - 1) ≡ false = cc in
+    sym (every_stops (rises_at f) (j - 1) (c.args.count - 1) (omega arith) stops)
 
 pub returns : goal.returns
 unfolding keys_rise
