@@ -6,7 +6,7 @@
 ghost use Rattle.std.specs.Prelude.{◌≡◌, ◌+◌, ◌*◌, ◌≤◌, ◌<◌, length};
 
 use candidates::internal::candidate_at;
-use candidates::{Counts, fiducial_candidates};
+use candidates::{Counts, WorkAreas, fiducial_candidates};
 use console::Console;
 use fiducials::internal::{one_way, too_small};
 use fiducials::{Corners, detect_fiducials};
@@ -140,20 +140,17 @@ fn find_candidates(console: &mut Console, capture: &[u8], w: usize, h: usize, fr
     let mut patches = [7u64; 36864];
     let mut records = [1.0; 1152];
     let mut blob_index = [7u32; 288];
-    let found = fiducial_candidates(
-        capture,
-        w,
-        h,
-        frame,
-        &mut luma,
-        &mut integral,
-        &mut mask,
-        &mut seen,
-        &mut waiting,
-        &mut patches,
-        &mut records,
-        &mut blob_index,
-    );
+    let mut work = WorkAreas {
+        luma: &mut luma,
+        integral: &mut integral,
+        mask: &mut mask,
+        seen: &mut seen,
+        waiting: &mut waiting,
+        patches: &mut patches,
+        candidates: &mut records,
+        blob_index: &mut blob_index,
+    };
+    let found = fiducial_candidates(capture, w, h, frame, &mut work);
     let counts = match found {
         Ok(counts) => counts,
         Err(_) => Counts::default(),
@@ -191,20 +188,17 @@ fn find_corners(console: &mut Console, capture: &[u8], w: usize, h: usize, frame
     let mut patches = [7u64; 36864];
     let mut records = [1.0; 1152];
     let mut blob_index = [7u32; 288];
-    let detected = detect_fiducials(
-        capture,
-        w,
-        h,
-        frame,
-        &mut luma,
-        &mut integral,
-        &mut mask,
-        &mut seen,
-        &mut waiting,
-        &mut patches,
-        &mut records,
-        &mut blob_index,
-    );
+    let mut work = WorkAreas {
+        luma: &mut luma,
+        integral: &mut integral,
+        mask: &mut mask,
+        seen: &mut seen,
+        waiting: &mut waiting,
+        patches: &mut patches,
+        candidates: &mut records,
+        blob_index: &mut blob_index,
+    };
+    let detected = detect_fiducials(capture, w, h, frame, &mut work);
     print(console, number_of(detected.corners), b'\n');
     if let Ok(corners) = detected.corners {
         print_corners(console, corners);

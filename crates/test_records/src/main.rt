@@ -12,7 +12,7 @@ ghost use Rattle.candidates.specs.Ring.{candidate_at};
 ghost use Rattle.records.specs.Records.{no_patch, no_candidate};
 
 use blobs::Blob;
-use candidates::Candidate;
+use candidates::{Candidate, WorkAreas, fiducial_candidates};
 use console::Console;
 use frame::{FrameSpec, Point, Refusal, Rgb};
 use records::internal::{fetch, store_candidate, store_patch};
@@ -68,20 +68,17 @@ fn find(console: &mut Console, capture: &[u8]) {
     let mut patches = [0u64; 16384];
     let mut candidates = [0.0; 512];
     let mut blob_index = [0u32; 128];
-    let found = candidates::fiducial_candidates(
-        capture,
-        64,
-        64,
-        frame,
-        &mut luma,
-        &mut integral,
-        &mut mask,
-        &mut seen,
-        &mut waiting,
-        &mut patches,
-        &mut candidates,
-        &mut blob_index,
-    );
+    let mut work = WorkAreas {
+        luma: &mut luma,
+        integral: &mut integral,
+        mask: &mut mask,
+        seen: &mut seen,
+        waiting: &mut waiting,
+        patches: &mut patches,
+        candidates: &mut candidates,
+        blob_index: &mut blob_index,
+    };
+    let found = fiducial_candidates(capture, 64, 64, frame, &mut work);
     match found {
         Ok(counts) => print_candidates(console, &candidates, &blob_index, counts.candidates),
         Err(refusal) => print_refusal(console, refusal),
