@@ -73,7 +73,8 @@ beyond_kept zero img f fit h = absurd (h refl)
 beyond_kept (suc n) img f fit h = refl
 
 -- the same bytes over whatever it held
-pub warped_same : (img : Image) (f : FrameSpec) (fit : GeometryFit) (c d : List ℕ) → length c ≡ canonical_length f → length d ≡ canonical_length f → warped img f fit c ≡ warped img f fit d
+pub warped_same : (img : Image) (f : FrameSpec) (fit : GeometryFit) (c d : List ℕ) → length c ≡ canonical_length f → length d ≡ canonical_length f
+    → warped img f fit c ≡ warped img f fit d
 unfolding warped
 warped_same img f fit c d x y =
     filled_whole (byte_of f.width (reading img fit)) (canonical_length f) c x ∙ sym (filled_whole (byte_of f.width (reading img fit)) (canonical_length f) d y)
