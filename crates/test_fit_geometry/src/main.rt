@@ -2,6 +2,7 @@
 // says what stdin and stdout hold, and how to make them again.
 #![tactic(auto)]
 
+use candidates::WorkAreas;
 use console::Console;
 use fiducials::Places;
 use fit::{GeometryFit, Grade};
@@ -72,11 +73,7 @@ fn answer(
 ) {
     let bytes = size_at(b, 6).min(capture.len());
     let cells = size_at(b, 7).min(means.len());
-    let r = fit_geometry::fit_geometry(
-        &capture[..bytes],
-        size_at(b, 0),
-        size_at(b, 1),
-        frame_at(b),
+    let mut work = WorkAreas {
         luma,
         integral,
         mask,
@@ -85,6 +82,13 @@ fn answer(
         patches,
         candidates,
         blob_index,
+    };
+    let r = fit_geometry::fit_geometry(
+        &capture[..bytes],
+        size_at(b, 0),
+        size_at(b, 1),
+        frame_at(b),
+        &mut work,
         &mut means[..cells],
     );
     print(console, r);

@@ -18,6 +18,7 @@
 mod file; // file.rt: a capture file
 mod print; // print.rt: an answer's lines
 
+use candidates::WorkAreas;
 use console::Console;
 use frame::Refusal;
 use std::io;
@@ -86,28 +87,38 @@ fn answer(
     let s = file::headed(head);
     print::head(console, number, s);
     let card: &mut [u8] = canonical;
+    let mut work = WorkAreas {
+        luma: &mut *luma,
+        integral: &mut *integral,
+        mask: &mut *mask,
+        seen: &mut *seen,
+        waiting: &mut *waiting,
+        patches: &mut *patches,
+        candidates: &mut *candidates,
+        blob_index: &mut *blob_index,
+    };
     let r = geometry::rectify(
         capture,
         s.w,
         s.h,
         s.frame,
-        luma,
-        integral,
-        mask,
-        seen,
-        waiting,
-        patches,
-        candidates,
-        blob_index,
+        &mut work,
         means,
         &mut card[..s.bytes],
     );
     print::answer(console, r, s, mask, patches, candidates, blob_index, card);
     if let Err(Refusal::Unscored) = r.picture.places {
-        let fit = fit_geometry::fit_geometry(
-            capture, s.w, s.h, s.frame, luma, integral, mask, seen, waiting, patches, candidates,
-            blob_index, means,
-        );
+        let mut work = WorkAreas {
+            luma,
+            integral,
+            mask,
+            seen,
+            waiting,
+            patches,
+            candidates,
+            blob_index,
+        };
+        let fit = fit_geometry::fit_geometry(capture, s.w, s.h, s.frame, &mut work, means);
         print::fitted(console, fit);
     }
 }

@@ -7,11 +7,11 @@ ghost use Rattle.std.specs.Prelude.{◌+◌, ◌≤◌};
 use console::Console;
 use fit::internal::sampled_cells;
 use fit::{GeometryFit, Grade};
-use frame::internal::{capture_wrong, frame_outside};
-use frame::{FrameSpec, Point, Quad, Refusal};
+use frame::{CheckedFrame, FrameSpec, Point, Quad, Refusal};
 use search::internal::search;
 use search::{Outcome, Stage};
 use std::io;
+use view::RgbImage;
 
 // A record at a time, to the end of stdin. The means are not cleared between two records.
 fn main(rt: HostRuntime) -> io::Result<()> {
@@ -61,17 +61,13 @@ fn searched(
     quad: Quad,
     means: &mut [f64],
 ) -> Result<Stage, Refusal> {
-    if frame_outside(frame) {
-        return Err(Refusal::FrameOutside);
-    }
-    if capture_wrong(capture, w, h) {
-        return Err(Refusal::CaptureWrong);
-    }
+    let frame = CheckedFrame::new(frame)?;
+    let capture = RgbImage::new(capture, w, h)?;
     let n = sampled_cells(frame);
     if means.len() < n {
         return Err(Refusal::AreaShort);
     }
-    Ok(search(capture, w, h, frame, quad, &mut means[..n]))
+    Ok(search(capture, frame, quad, &mut means[..n]))
 }
 
 // ---- arguments
