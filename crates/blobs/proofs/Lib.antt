@@ -3,6 +3,7 @@ pub mod Sums
 pub mod Grid
 pub mod Steps
 pub mod Spread
+pub mod Around
 pub mod Joins
 pub mod Marks
 pub mod Faces
@@ -19,4 +20,4 @@ pub mod Unique
 pub mod Counts
 pub mod Classes
 pub mod Masks
-pub mod Refused
+pub mod Refusing

@@ -93,7 +93,7 @@ reach_then r s =
     }
 
 -- ---- one pixel
-reach_visit : {m : List ℕ} (a : Marking) (q : ℕ) → Held m a → q < length m → Reach m (λ x. x ≡ q) a (visit m q a)
+pub reach_visit : {m : List ℕ} (a : Marking) (q : ℕ) → Held m a → q < length m → Reach m (λ x. x ≡ q) a (visit m q a)
 unfolding visit
 reach_visit {m} a q h l =
     cond_elim (Reach m (λ x. x ≡ q) a) (eqb (get_or m q 0) 0) a _ (λ e. reach_none h)

@@ -11,14 +11,14 @@ use Rattle.base.proofs.Plane.{filled_is}
 use Rattle.base.proofs.Table.{table_at, length_table}
 use Rattle.base.proofs.Parts.{filled_lent}
 use Rattle.blobs.specs.declared.Blob.{Blob}
-use Rattle.blobs.specs.Patches.{total, one, PatchOf, ink, record_length, patch_at, Waited, PatchList}
+use Rattle.blobs.specs.Patches.{Dark, total, one, PatchOf, ink, record_length, patch_at, Waited, PatchList}
 use Rattle.blobs.specs.Stack.{Scanned, scanned, scan, unmarked, scan_all, waited_of}
 use Rattle.blobs.specs.Moments.{MostHeld}
 use Rattle.blobs.specs.Ready.{at, Sized}
 use Rattle.blobs.specs.Areas.{patch_areas}
 use Rattle.blobs.specs.Labels.{Labels}
 use Rattle.blobs.proofs.Sums.{total_same_f}
-use Rattle.blobs.proofs.Scans.{Scan, none, scan_turns, seen_all, seen_ink, scan_half, areas_ink, outlines_ink}
+use Rattle.blobs.proofs.Scans.{Scan, none, scan_few, scan_turns, seen_all, seen_ink, scan_half, areas_ink, outlines_ink}
 use Rattle.blobs.proofs.Moments.{waited_most}
 
 -- the areas as the scan left them
@@ -30,8 +30,15 @@ unfolding turns table unmarked
 scan_begun m w s l e = ap (λ x. scanned x [] 0) e
 
 -- room for one record more
-pub few_room : (c n z r : ℕ) → c ≡ n → 2 * (c + 1) ≤ z + 1 → record_length * ((z + 1) / 2) ≤ r → record_length * (n + 1) ≤ r
+few_room : (c n z r : ℕ) → c ≡ n → 2 * (c + 1) ≤ z + 1 → record_length * ((z + 1) / 2) ≤ r → record_length * (n + 1) ≤ r
 few_room c n z r e a b = omega arith
+
+pub record_room : {m : List ℕ} {w h : ℕ} (s l : List ℕ) (n d i : ℕ) → Sized m w h → i < length m
+    → scanned s (table (patch_at l) n) d ≡ turns i (scan m w) (unmarked m) → Dark m i → at s i ≡ 0
+    → record_length * ((length m + 1) / 2) ≤ length l → record_length * (n + 1) ≤ length l
+record_room {m} s l n d i g b e dark u r =
+    let v = scan_at g (scanned s (table (patch_at l) n) d) i (omega arith) e in
+    few_room (length (table (patch_at l) n)) n (length m) (length l) (length_table (patch_at l) n) (scan_few v b dark u) r
 
 module _ {m : List ℕ} {w h : ℕ} (g : Sized m w h) (s k l s' k' l' : List ℕ) (n d : ℕ) (e : scanned s' (table (patch_at l') n) d ≡ turns (length m) (scan m w) (unmarked m)) where
   v : Scan m w (scanned s' (table (patch_at l') n) d) (length m)

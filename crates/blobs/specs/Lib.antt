@@ -2,6 +2,7 @@
 pub mod Patches
 pub mod Sides
 pub mod Stack
+pub mod Neighbours
 pub mod Moments
 pub mod Ready
 pub mod Areas

@@ -1,5 +1,5 @@
 // Labelling on areas that are long enough. The layers above call `label`.
-ghost use Rattle.std.specs.Prelude.{◌≡◌, [], ◌+◌, ◌*◌, ◌/◌, ◌≤◌, ◌<◌, length, drop, replicate};
+ghost use Rattle.std.specs.Prelude.{◌≡◌, [], ◌+◌, ◌*◌, ◌/◌, ◌≤◌, ◌<◌, length, drop};
 ghost use Rattle.base.specs.Loops.{table, turns};
 ghost use Rattle.blobs.specs.Patches.{PatchOf, record_length, patch_at};
 ghost use Rattle.blobs.specs.Stack.{flooding, flood, scanned, scan, unmarked};
@@ -7,19 +7,11 @@ ghost use Rattle.blobs.specs.Ready.{Ready, Sized};
 ghost use Rattle.blobs.specs.Areas.{patch_areas};
 ghost use Rattle.blobs.specs.Labels.{Labels};
 
-use super::Blob;
 use super::outline::sides;
 pub use super::patch::blob_at;
 use super::patch::{grow, no_blob, store};
 use super::visit::spread;
-use base::max;
-
-// How many patches there are, and the most pixels that waited.
-#[derive(Clone, Copy)]
-pub struct Labelled {
-    pub patches: usize,
-    pub waited: usize,
-}
+use super::{Blob, Labelled};
 
 // A flood's patch, and the most pixels that waited.
 #[derive(Clone, Copy)]
@@ -48,23 +40,9 @@ fn flood(mask: &[u8], seen: &mut [u8], waiting: &mut [u32], w: usize, a: usize) 
         let s = sides(mask, w, p, x);
         blob = grow(blob, x as u64, y as u64, s);
         top = spread(mask, seen, waiting, low, w, p, x);
-        waited = max(waited, top);
+        waited = waited.max(top);
     }
-    Flooded {
-        blob: blob,
-        waited: waited,
-    }
-}
-
-// Sets each mark to 0.
-fn clear(seen: &mut [u8])
-    ensures { seen.new ≡ replicate (length seen.old) 0 }
-{
-    let mut i = 0;
-    while i < seen.len() {
-        seen[i] = 0;
-        i += 1;
-    }
+    Flooded { blob, waited }
 }
 
 // The scan's step at the pixel i: a dark pixel that is not yet marked starts a patch.
@@ -88,20 +66,14 @@ fn scan(
     ensures patches_le_patches { (c.patches ≤ result.patches) × (drop (record_length * result.patches) patches.new
         ≡ drop (record_length * result.patches) patches.old) }
 {
-    if mask[i] == 0 {
-        return c;
-    }
-    if seen[i] != 0 {
+    if mask[i] == 0 || seen[i] != 0 {
         return c;
     }
     let f = flood(mask, seen, waiting, w, i);
-    let n = c.patches;
-    let blob = f.blob;
-    store(patches, n, blob);
-    let waited = max(c.waited, f.waited);
+    store(patches, c.patches, f.blob);
     Labelled {
-        patches: n + 1,
-        waited: waited,
+        patches: c.patches + 1,
+        waited: c.waited.max(f.waited),
     }
 }
 
@@ -120,15 +92,13 @@ fn label_exact(
         (patch_areas seen.old waiting.old patches.old)
         (patch_areas seen.new waiting.new patches.new) result.patches result.waited }
 {
-    clear(seen);
+    seen.fill(0);
     let mut c = Labelled {
         patches: 0,
         waited: 0,
     };
-    let mut i = 0;
-    while i < mask.len() {
+    for i in 0..mask.len() {
         c = scan(mask, w, h, seen, waiting, patches, i, c);
-        i += 1;
     }
     c
 }

@@ -4,7 +4,6 @@ ghost use Rattle.blobs.specs.Patches.{record_length, patch_at, stored};
 ghost use Rattle.blobs.specs.Stack.{grow, no_blob};
 
 use super::{Blob, RECORD_LENGTH};
-use base::{max_u64, min_u64};
 
 // The record with one pixel more, s of whose sides count.
 pub fn grow(b: Blob, x: u64, y: u64, s: u64) -> Blob
@@ -12,18 +11,14 @@ pub fn grow(b: Blob, x: u64, y: u64, s: u64) -> Blob
         × (b.outline + s < 2 ^ 64) }
     ensures { result ≡ grow b x y s }
 {
-    let x0 = min_u64(b.x0, x);
-    let y0 = min_u64(b.y0, y);
-    let x1 = max_u64(b.x1, x);
-    let y1 = max_u64(b.y1, y);
     Blob {
         area: b.area + 1,
         sx: b.sx + x,
         sy: b.sy + y,
-        x0: x0,
-        y0: y0,
-        x1: x1,
-        y1: y1,
+        x0: b.x0.min(x),
+        y0: b.y0.min(y),
+        x1: b.x1.max(x),
+        y1: b.y1.max(y),
         outline: b.outline + s,
     }
 }

@@ -10,7 +10,9 @@ use Rattle.frame.specs.declared.FrameSpec.{FrameSpec}
 use Rattle.base.proofs.Tests.{or_left, or_right}
 use Rattle.markers.specs.Layout.{marker_size, quiet_zone, margin_for, marker, no_layout, origins, layout_of}
 use Rattle.markers.specs.declared.internal.Markers.{Markers}
-use Rattle.markers.specs.declared.internal.Layout.TheVariants as L
+use Rattle.std.specs.Prelude.{Some, None, Ok, Err, ok_or}
+use Rattle.frame.specs.declared.refusals.Refusal.{Refusal}
+use Rattle.frame.specs.declared.refusals.Refusal.TheVariants.{NoLayout}
 use Rattle.float.specs.Floats.{f64}
 
 pub marker_size_least : (cell : ℕ) → 72 ≤ marker_size cell
@@ -69,31 +71,23 @@ layout_held f e =
       height_room = ltb-false _ _ (or_right (p || q || r) s e);
     }
 
--- `marker_layout` is None where there is no layout, and else has these values
+-- what `marker_layout` gives, once None is refused
 module _ (f : FrameSpec) where
   abbrev pub placed : Markers
   placed = record { m = f64 (marker f); origins = origins f }
 
-  pub layout_none : layout_of f ≡ L.None → no_layout f ≡ true
+  pub layout_refused : (r : Refusal) → ok_or (layout_of f) NoLayout ≡ Err r → (no_layout f ≡ true) × (r ≡ NoLayout)
   unfolding layout_of
-  layout_none = go (no_layout f)
+  layout_refused r = go (no_layout f)
     where
-      go : (t : Bool) → cond t L.None (L.Is placed) ≡ L.None → t ≡ true
-      go true e = refl
+      go : (t : Bool) → ok_or (cond t None (Some placed)) NoLayout ≡ Err r → (t ≡ true) × (r ≡ NoLayout)
+      go true e = (refl, cc)
       go false e = let z : ◌≡◌ {A = ℕ} 0 1 = cc in absurd (omega arith)
 
-  pub layout_some : (k : Markers) → layout_of f ≡ L.Is k → no_layout f ≡ false
+  pub layout_given : (k : Markers) → ok_or (layout_of f) NoLayout ≡ Ok k → (no_layout f ≡ false) × (k ≡ placed)
   unfolding layout_of
-  layout_some k = go (no_layout f)
+  layout_given k = go (no_layout f)
     where
-      go : (t : Bool) → cond t L.None (L.Is placed) ≡ L.Is k → t ≡ false
+      go : (t : Bool) → ok_or (cond t None (Some placed)) NoLayout ≡ Ok k → (t ≡ false) × (k ≡ placed)
       go true e = let z : ◌≡◌ {A = ℕ} 0 1 = cc in absurd (omega arith)
-      go false e = refl
-
-  pub layout_values : (k : Markers) → layout_of f ≡ L.Is k → k ≡ placed
-  unfolding layout_of
-  layout_values k = go (no_layout f)
-    where
-      go : (t : Bool) → cond t L.None (L.Is placed) ≡ L.Is k → k ≡ placed
-      go true e = let z : ◌≡◌ {A = ℕ} 0 1 = cc in absurd (omega arith)
-      go false e = cc
+      go false e = (refl, cc)

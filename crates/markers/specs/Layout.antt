@@ -1,11 +1,10 @@
 -- Markers and their layout (requirements, 5). Assumes nothing.
-use Rattle.std.specs.Prelude.{ℕ, ◌+◌, ◌*◌, ◌-◌, ◌/◌, min, max, Bool, cond, ◌||◌, ltb, Float}
+use Rattle.std.specs.Prelude.{ℕ, ◌+◌, ◌*◌, ◌-◌, ◌/◌, min, max, Bool, cond, ◌||◌, ltb, Float, Option, Some, None}
 use Rattle.float.specs.Floats.{◌⊕◌, ◌⊖◌, ◌⊘◌, f64}
 use Rattle.frame.specs.declared.FrameSpec.{FrameSpec}
 use Rattle.frame.specs.declared.Point.{Point}
 use Rattle.frame.specs.declared.Quad.{Quad}
-use Rattle.markers.specs.declared.internal.Layout.{Layout}
-use Rattle.markers.specs.declared.internal.Layout.TheVariants as L
+use Rattle.markers.specs.declared.internal.Markers.{Markers}
 
 -- [5.1] marker = 8·cell held to 72..96
 unfoldable pub marker_size : ℕ → ℕ
@@ -50,8 +49,8 @@ origins f =
     }
 
 -- `marker_layout`: the marker's side and the four corners, or None
-unfoldable pub layout_of : FrameSpec → Layout
-layout_of f = cond (no_layout f) L.None (L.Is (record { m = f64 (marker f); origins = origins f }))
+unfoldable pub layout_of : FrameSpec → Option Markers
+layout_of f = cond (no_layout f) None (Some (record { m = f64 (marker f); origins = origins f }))
 
 -- [5.3] centres run TL, TR, BR, BL: half a marker further
 abbrev pub moved : Float → Point → Point

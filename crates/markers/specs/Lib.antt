@@ -1,5 +1,4 @@
 -- Definitions that the contracts of this crate cite.
 pub mod Layout
-pub mod Answers
 pub mod Stamp
 pub mod Promises

@@ -6,14 +6,13 @@ ghost use Rattle.markers.specs.Layout.{marker_size, quiet_zone, margin_for, mark
 ghost use Rattle.markers.specs.Layout.{layout_of, moved, marker_centers};
 
 use super::{MARKER_MAX_PX, MARKER_MIN_PX};
-use base::{max, min, saturating_sub};
 use frame::{FrameSpec, Point, Quad};
 
 pub fn marker_size(cell: usize) -> usize
     requires { cell ≤ 512 }
     ensures { result ≡ marker_size cell }
 {
-    max(MARKER_MIN_PX, min(MARKER_MAX_PX, 8 * cell))
+    (8 * cell).clamp(MARKER_MIN_PX, MARKER_MAX_PX)
 }
 
 pub fn quiet_zone(cell: usize) -> usize
@@ -35,7 +34,7 @@ pub fn marker(frame: FrameSpec) -> usize
     requires { FrameHeld frame }
     ensures { result ≡ marker frame }
 {
-    saturating_sub(frame.margin, 2 * quiet_zone(frame.cell))
+    frame.margin.saturating_sub(2 * quiet_zone(frame.cell))
 }
 
 // Refusal 5.
@@ -74,23 +73,17 @@ pub struct Markers {
     pub origins: Quad,
 }
 
-// The Rust's Option of them.
-#[derive(Clone, Copy)]
-pub enum Layout {
-    Is(Markers),
-    None,
-}
-
-pub fn marker_layout(frame: FrameSpec) -> Layout
+pub fn marker_layout(frame: FrameSpec) -> Option<Markers>
     requires { FrameHeld frame }
     ensures { result ≡ layout_of frame }
 {
     if no_layout(frame) {
-        return Layout::None;
+        return None;
     }
-    let m = marker(frame) as f64;
-    let o = origins(frame);
-    Layout::Is(Markers { m: m, origins: o })
+    Some(Markers {
+        m: marker(frame) as f64,
+        origins: origins(frame),
+    })
 }
 
 fn moved(d: f64, p: Point) -> Point

@@ -5,7 +5,6 @@ ghost use Rattle.frame.specs.Image.{image, with_rect};
 ghost use Rattle.markers.specs.Stamp.{end, bullseye, bullseyes, with_squares};
 
 use super::MARKER_UNITS;
-use base::saturating_sub;
 use frame::{BLACK, Quad, Rgb, WHITE};
 
 // The column or row at which a side ends.
@@ -30,8 +29,8 @@ pub fn fill(bytes: &mut [u8], w: usize, h: usize, x: f64, y: f64, width: f64, he
         h,
         x0,
         y0,
-        saturating_sub(x1, x0),
-        saturating_sub(y1, y0),
+        x1.saturating_sub(x0),
+        y1.saturating_sub(y0),
         c,
     );
 }

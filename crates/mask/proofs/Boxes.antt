@@ -1,32 +1,14 @@
--- The four corners of a box, and its mean read from the integral. Assumes nothing.
+-- The mean of a box, read from the integral. Assumes nothing.
 use mathlib.Core.Path.{◌≡◌, ◌∙◌}
 use mathlib.Core.List.{List}
 use Prim.Native.Nat.{ℕ, ◌+◌, ◌-◌, ◌*◌, ◌≤◌, ◌<◌}
 use native.Mathlib.Omega.{arith}
 use lib.Ieee.{Float}
 use Rattle.base.proofs.Plane.{by_row_lem}
-use Rattle.base.proofs.Arith.{row_in, product_le}
+use Rattle.base.proofs.Arith.{row_in}
 use Rattle.float.specs.Floats.{◌⊕◌, ◌⊖◌, ◌⊘◌, f64, narrowed}
 use Rattle.mask.specs.Mask.{integral_at, box_mean, lower, upper}
 use Rattle.mask.specs.Planes.{entry_at, Integral}
-
--- the corners are entries of the integral, and the box has few pixels
-pub record Corners (w h x0 x1 y0 y1 : ℕ) : Type 0 where
-  pub lower_right : y1 * (w + 1) + x1 < (w + 1) * (h + 1)
-  pub upper_right : y0 * (w + 1) + x1 < (w + 1) * (h + 1)
-  pub lower_left : y1 * (w + 1) + x0 < (w + 1) * (h + 1)
-  pub upper_left : y0 * (w + 1) + x0 < (w + 1) * (h + 1)
-  pub count : (x1 - x0) * (y1 - y0) ≤ 4096 * 4096
-
-pub corners : (w h x0 x1 y0 y1 : ℕ) → w ≤ 4096 → h ≤ 4096 → x0 ≤ w → x1 ≤ w → y0 ≤ h → y1 ≤ h → Corners w h x0 x1 y0 y1
-corners w h x0 x1 y0 y1 p q a b c d =
-    record {
-      lower_right = row_in x1 y1 (w + 1) (h + 1) (omega arith) (omega arith);
-      upper_right = row_in x1 y0 (w + 1) (h + 1) (omega arith) (omega arith);
-      lower_left = row_in x0 y1 (w + 1) (h + 1) (omega arith) (omega arith);
-      upper_left = row_in x0 y0 (w + 1) (h + 1) (omega arith) (omega arith);
-      count = product_le (x1 - x0) (y1 - y0) 4096 4096 (omega arith) (omega arith);
-    }
 
 module _ (luma a : List Float) (w h : ℕ) (holds : Integral luma w h a) where
   entry_is : (x y : ℕ) → x ≤ w → y ≤ h → entry_at a w x y ≡ integral_at luma w x y

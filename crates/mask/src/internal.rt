@@ -9,7 +9,6 @@ ghost use Rattle.mask.specs.Mask.{integral_entry, box_mean, is_dark, dark_entry}
 ghost use Rattle.mask.specs.Mask as mask;
 ghost use Rattle.mask.specs.Planes.{entry_at, Integral, Ready, Planes};
 
-use base::{max, min, saturating_sub};
 use float::internal::to_f64;
 use frame::FrameSpec;
 
@@ -18,9 +17,7 @@ fn first_row(integral: &mut [f64], n: usize)
     requires { n ≤ length integral.old }
     ensures { integral.new ≡ filled (λ k. f64 0) n integral.old }
 {
-    for x in 0..n {
-        integral[x] = 0.0;
-    }
+    integral[..n].fill(0.0);
 }
 
 // Row y + 1 of the integral, above which it is done.
@@ -39,7 +36,7 @@ fn integral_row(luma: &[f32], w: usize, h: usize, y: usize, integral: &mut [f64]
         let i = y * w + x;
         let up = y * s + (x + 1);
         let at = base + (x + 1);
-        row = row + float::widen(luma[i]);
+        row += float::widen(luma[i]);
         integral[at] = integral[up] + row;
     }
 }
@@ -63,10 +60,10 @@ fn box_mean(integral: &[f64], w: usize, h: usize, radius: usize, x: usize, y: us
     ensures { result ≡ box_mean (entry_at integral.now w) w h radius x y }
 {
     let s = w + 1;
-    let x0 = saturating_sub(x, radius);
-    let x1 = min(w, x + radius + 1);
-    let y0 = saturating_sub(y, radius);
-    let y1 = min(h, y + radius + 1);
+    let x0 = x.saturating_sub(radius);
+    let x1 = w.min(x + radius + 1);
+    let y0 = y.saturating_sub(radius);
+    let y1 = h.min(y + radius + 1);
     let a = y1 * s + x1;
     let b = y0 * s + x1;
     let c = y1 * s + x0;
@@ -83,7 +80,7 @@ fn dark(luma: &[f32], integral: &[f64], w: usize, h: usize, radius: usize, x: us
 {
     let i = y * w + x;
     let mean = box_mean(integral, w, h, radius, x, y);
-    if luma[i] < mean - 8.0 { 1 } else { 0 }
+    u8::from(luma[i] < mean - 8.0)
 }
 
 fn mask_row(
@@ -132,7 +129,8 @@ fn radius(w: usize, h: usize, frame: FrameSpec) -> usize
     requires { (w ≤ 4096) × (h ≤ 4096) × FrameHeld frame }
     ensures { (result ≡ mask.radius w h frame) × (result ≤ 4096) }
 {
-    max(8, min(min(w, h) / 4, markers::internal::marker(frame) / 3))
+    let most = w.min(h) / 4;
+    most.min(markers::internal::marker(frame) / 3).max(8)
 }
 
 // Luma, integral and mask of a capture.

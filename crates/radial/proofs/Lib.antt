@@ -1,4 +1,3 @@
 -- Laws of the definitions.
-pub mod Sides
 pub mod Steps
 pub mod Marked

@@ -1,13 +1,12 @@
 -- Radial (requirements, 10.4 and 10.5). Assumes nothing.
-use Rattle.std.specs.Prelude.{cond, ℕ, zero, suc, Float}
+use Rattle.std.specs.Prelude.{cond, ℕ, zero, suc, Float, Result}
 use Rattle.std.specs.Float.Ieee.{lt, eq}
 use Rattle.float.specs.Floats.{◌⊕◌, ◌⊖◌, ◌⊗◌, ◌⊘◌, f64, tiny, abs_of, max_of}
 use Rattle.float.specs.Root.{sqrt_of}
 use Rattle.frame.specs.declared.Point.{Point}
-use Rattle.frame.specs.Refusals.{lowest_of, side_tests}
+use Rattle.frame.specs.Refusals.{answer_for, side_tests}
+use Rattle.frame.specs.declared.refusals.Refusal.{Refusal}
 use Rattle.radial.specs.declared.Radial.{Radial}
-use Rattle.radial.specs.declared.Lens.{Lens}
-use Rattle.radial.specs.declared.Lens.TheVariants.{Is, Refused}
 
 -- [10.4] the lens term k about the centre of a picture w by h; norm is half the diagonal, at least 1
 unfoldable pub radial : ℕ → ℕ → Float → Radial
@@ -16,26 +15,9 @@ radial w h k =
     let cy = f64 h ⊘ f64 2 in
     record { k = k; cx = cx; cy = cy; norm = max_of (sqrt_of (cx ⊗ cx ⊕ cy ⊗ cy)) (f64 1) }
 
--- ---- `Radial::new`
-
--- the refusal's number, 0 where there is none
-unfoldable pub lens_refusal : Lens → ℕ
-lens_refusal (Is l) = 0
-lens_refusal (Refused n) = n
-
--- the lens, and no distortion about (0, 0) where it is refused
-unfoldable pub lens_value : Lens → Radial
-lens_value (Is l) = l
-lens_value (Refused n) = record { k = f64 0; cx = f64 0; cy = f64 0; norm = f64 1 }
-
--- the answer whose refusal is n, and whose lens is l where n is 0
-unfoldable pub lens_as : ℕ → Radial → Lens
-lens_as zero l = Is l
-lens_as (suc n) l = Refused (suc n)
-
--- [2.12] the lowest number that applies, and else the lens
-unfoldable pub new_lens : ℕ → ℕ → Float → Lens
-new_lens w h k = lens_as (lowest_of (side_tests w h)) (radial w h k)
+-- `Radial::new`: the refusal of lone sides, and else the lens
+unfoldable pub new_lens : ℕ → ℕ → Float → Result Radial Refusal
+new_lens w h k = answer_for (side_tests w h) (radial w h k)
 
 -- ---- where a point goes
 

@@ -13,10 +13,5 @@ pub fn lens(w: usize, h: usize, k: f64) -> Radial
     let cy = (h as f64) / 2.0;
     let half = float::sqrt(cx * cx + cy * cy);
     let norm = float::max(half, 1.0);
-    Radial {
-        k: k,
-        cx: cx,
-        cy: cy,
-        norm: norm,
-    }
+    Radial { k, cx, cy, norm }
 }

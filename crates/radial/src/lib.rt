@@ -20,7 +20,7 @@ pub mod internal;
 ghost use Rattle.std.specs.Prelude.{◌≡◌};
 ghost use Rattle.radial.specs.Lens as model;
 
-use frame::Point;
+use frame::{Point, Refusal};
 
 #[derive(Clone, Copy)]
 pub struct Radial {
@@ -28,13 +28,6 @@ pub struct Radial {
     pub cx: f64,
     pub cy: f64,
     pub norm: f64,
-}
-
-// What new gives.
-#[derive(Clone, Copy)]
-pub enum Lens {
-    Is(Radial),
-    Refused(u32),
 }
 
 // At most six of Newton's steps on u + k u^3 = rd, from u = rd.
@@ -56,14 +49,13 @@ fn newton(k: f64, rd: f64) -> f64
 impl Radial {
     // The lens term k about the centre of a picture w by h; refusal 2 for a side outside 1 to
     // 4,096.
-    pub fn new(w: usize, h: usize, k: f64) -> Lens
+    pub fn new(w: usize, h: usize, k: f64) -> Result<Radial, Refusal>
         ensures { result ≡ model.new_lens w h k }
     {
         if frame::internal::sides_wrong(w, h) {
-            return Lens::Refused(2);
+            return Err(Refusal::CaptureWrong);
         }
-        let l = internal::lens(w, h, k);
-        Lens::Is(l)
+        Ok(internal::lens(w, h, k))
     }
 
     // Pinhole point to observed point.

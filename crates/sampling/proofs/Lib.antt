@@ -1,3 +1,2 @@
 -- Laws that several proofs of this crate, or other crates' proofs, cite.
 pub mod Whole
-pub mod Given

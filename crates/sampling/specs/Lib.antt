@@ -1,4 +1,3 @@
 -- Definitions that the contracts of this crate cite.
 pub mod Luma
 pub mod Reading
-pub mod Answers

@@ -7,7 +7,6 @@ ghost use Rattle.sampling.specs.Luma.{luma_at};
 ghost use Rattle.sampling.specs.Reading.{neighbours_of, blended, bilinear, inside, sample_at};
 
 use crate::{Neighbours, Sample};
-use base::min;
 use float::internal::to_f64;
 use frame::{Point, Rgb};
 
@@ -31,8 +30,8 @@ fn neighbours(n: usize, t: f64) -> Neighbours
     let c = float::clamp(t - 0.5, 0.0, to_f64(n) - 1.0);
     let first = float::to_usize(c);
     Neighbours {
-        first: first,
-        next: min(first + 1, n - 1),
+        first,
+        next: (first + 1).min(n - 1),
         part: c - to_f64(first),
     }
 }
@@ -78,10 +77,8 @@ pub fn sample(capture: &[u8], w: usize, h: usize, p: Point) -> Sample
     requires { CaptureHeld (image w h capture.now) }
     ensures { result ≡ sample_at (image w h capture.now) p }
 {
-    let colour = reading(capture, w, h, p);
-    let within = inside(w, h, p.x, p.y);
     Sample {
-        colour: colour,
-        inside: within,
+        colour: reading(capture, w, h, p),
+        inside: inside(w, h, p.x, p.y),
     }
 }

@@ -3,12 +3,11 @@
 
 ghost use Rattle.std.specs.Prelude.{◌≡◌};
 ghost use Rattle.frame.specs.Image.{image};
-ghost use Rattle.frame.specs.Refusals.{capture_tests};
+ghost use Rattle.frame.specs.Refusals.{capture_tests, answer_for};
 ghost use Rattle.sampling.specs.Luma.{luma_of};
 ghost use Rattle.sampling.specs.Reading.{sample_at};
-ghost use Rattle.sampling.specs.Answers.{colour_for};
 
-use frame::{Point, Rgb};
+use frame::{Point, Refusal, Rgb};
 
 pub mod internal;
 
@@ -27,13 +26,6 @@ pub struct Sample {
     pub inside: bool,
 }
 
-// The answer of `bilinear`: what it read, or the number of a refusal.
-#[derive(Clone, Copy)]
-pub enum Colour {
-    Is(Sample),
-    Refused(u32),
-}
-
 // A pixel's luma, of its three bytes.
 pub fn luma(r: u8, g: u8, b: u8) -> f32
     ensures { result ≡ luma_of r g b }
@@ -43,12 +35,12 @@ pub fn luma(r: u8, g: u8, b: u8) -> f32
 
 // The colour at (x, y), in coordinates that put a pixel's centre at a half, by weights of the four
 // pixels around it, truncated. A place outside the picture reads its edge, and the answer tells it.
-pub fn bilinear(capture: &[u8], w: usize, h: usize, x: f64, y: f64) -> Colour
-    ensures { result ≡ colour_for (capture_tests (image w h capture.now)) (sample_at
+pub fn bilinear(capture: &[u8], w: usize, h: usize, x: f64, y: f64) -> Result<Sample, Refusal>
+    ensures { result ≡ answer_for (capture_tests (image w h capture.now)) (sample_at
         (image w h capture.now) (record { x = x; y = y })) }
 {
     if frame::internal::capture_wrong(capture, w, h) {
-        return Colour::Refused(2);
+        return Err(Refusal::CaptureWrong);
     }
-    Colour::Is(internal::sample(capture, w, h, Point { x: x, y: y }))
+    Ok(internal::sample(capture, w, h, Point { x, y }))
 }

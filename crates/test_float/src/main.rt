@@ -4,12 +4,13 @@
 // prints which vector, the arguments, the answer and what it should be, and stops.
 #![tactic(auto)]
 
+mod helper; // helper.rt: the float helpers, in the order of the vectors
+
 ghost use Rattle.std.specs.Prelude.{◌≤◌};
 
 use console::Console;
+use helper::Helper;
 use std::io;
-
-const HELPERS: usize = 10;
 
 fn main(rt: HostRuntime) -> io::Result<()> {
     let mut console = Console::new(rt);
@@ -21,20 +22,19 @@ fn main(rt: HostRuntime) -> io::Result<()> {
 
 // The helpers in turn. The first words of b are their numbers of vectors.
 fn compare_all(console: &mut Console, b: &[u8]) {
-    let mut at: usize = HELPERS;
-    let mut helper: usize = 0;
-    while helper < HELPERS {
-        let n = vectors::word(b, helper);
-        let run = compare(b, helper, at, n);
-        print_name(console, helper);
+    let mut at = Helper::ALL.len();
+    for (i, helper) in Helper::ALL.iter().enumerate() {
+        let n = vectors::word(b, i);
+        let run = compare(b, *helper, at, n);
+        console.text(helper.name());
+        console.text(b" ");
         if run.agree < n {
-            print_difference(console, b, helper, run.at, run.agree);
+            print_difference(console, b, *helper, run);
             return;
         }
         console.decimal(n);
         console.text(b"\n");
         at = run.at;
-        helper += 1;
     }
     // a word past the end reads as 0, so the vectors must fill the input exactly
     if at != b.len() / 8 {
@@ -51,85 +51,29 @@ struct Run {
 
 // The helper's n vectors from word `at` on, up to the first that differs or that lies past any
 // input.
-fn compare(b: &[u8], helper: usize, at: usize, n: u64) -> Run
+fn compare(b: &[u8], helper: Helper, mut at: usize, n: u64) -> Run
     ensures { result.agree ≤ n }
 {
-    let step = words(helper);
-    let mut p = at;
-    let mut i: u64 = 0;
-    while i < n {
-        if 1000000 < p {
-            return Run { agree: i, at: p };
+    let step = helper.words();
+    for agree in 0..n {
+        if 1000000 < at || helper.answer(b, at) != vectors::word(b, at + step - 1) {
+            return Run { agree, at };
         }
-        if answer(b, helper, p) != vectors::word(b, p + step - 1) {
-            return Run { agree: i, at: p };
-        }
-        p += step;
-        i += 1;
+        at += step;
     }
-    Run { agree: i, at: p }
+    Run { agree: n, at }
 }
 
-// The words of a vector: its arguments and the answer.
-fn words(helper: usize) -> usize
-    ensures { (2 ≤ result) × (result ≤ 4) }
-{
-    if helper < 8 {
-        2
-    } else {
-        if helper == 8 { 3 } else { 4 }
-    }
-}
-
-// The helper's answer to the arguments from word p on.
-fn answer(b: &[u8], helper: usize, p: usize) -> u64
-    requires { p ≤ 1000000 }
-{
-    let w = vectors::word(b, p);
-    let x = vectors::double(w);
-    let y = vectors::double(vectors::word(b, p + 1));
-    match helper {
-        0 => vectors::bits(float::sqrt(x)),
-        1 => vectors::bits32(float::narrow(x)) as u64,
-        2 => vectors::bits(float::round(x)),
-        3 => float::to_u8(x) as u64,
-        4 => float::to_usize(x) as u64,
-        5 => vectors::bits(float::abs(x)),
-        6 => vectors::bits(float::signum(x)),
-        7 => vectors::bits(float::widen(vectors::single((w % 0x1_0000_0000) as u32))),
-        8 => vectors::bits(float::max(x, y)),
-        _ => vectors::bits(float::clamp(x, y, vectors::double(vectors::word(b, p + 2)))),
-    }
-}
-
-fn print_name(console: &mut Console, helper: usize) {
-    match helper {
-        0 => console.text(b"sqrt "),
-        1 => console.text(b"narrow "),
-        2 => console.text(b"round "),
-        3 => console.text(b"to_u8 "),
-        4 => console.text(b"to_usize "),
-        5 => console.text(b"abs "),
-        6 => console.text(b"signum "),
-        7 => console.text(b"widen "),
-        8 => console.text(b"max "),
-        _ => console.text(b"clamp "),
-    };
-}
-
-// The vector that starts at word p: its number, its words, and the helper's own answer.
-fn print_difference(console: &mut Console, b: &[u8], helper: usize, p: usize, number: u64) {
+// The vector that starts at word run.at: its number, its words, and the helper's own answer.
+fn print_difference(console: &mut Console, b: &[u8], helper: Helper, run: Run) {
     console.text(b"differs at ");
-    console.decimal(number);
+    console.decimal(run.agree);
     console.text(b"\n");
-    if p <= 1000000 {
-        let step = words(helper);
-        let mut k: usize = 0;
-        while k < step {
-            print_word(console, vectors::word(b, p + k));
-            k += 1;
+    if run.at <= 1000000 {
+        for k in 0..helper.words() {
+            print_word(console, vectors::word(b, run.at + k));
         }
-        print_word(console, answer(b, helper, p));
+        print_word(console, helper.answer(b, run.at));
     }
 }
 

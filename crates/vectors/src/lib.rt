@@ -10,6 +10,7 @@ ghost use Rattle.std.specs.Float.Ieee.{of_bits, to_bits};
 ghost use Rattle.vectors.specs.Words.{word_of, hex_digit_ascii, hex_line};
 
 // Word i of b, the lowest byte first, and 0 where b is too short to hold it.
+#[tactic(auto, unfolding(crate::specs::Words::word_of))]
 pub fn word(b: &[u8], i: usize) -> u64
     ensures { result ≡ word_of b.now i }
 {
@@ -31,7 +32,7 @@ pub fn bits(x: f64) -> u64
 pub fn bits32(x: f32) -> u32
     ensures { result ≡ to_bits binary32 x }
 {
-    if x != x { 0x7fc0_0000 } else { f32::to_bits(x) }
+    std::num::f32_to_bits_with_nan(x)
 }
 
 // The float that the pattern p stands for, a NaN's too.
@@ -44,11 +45,7 @@ pub fn double(p: u64) -> f64
 pub fn single(p: u32) -> f32
     ensures { result ≡ of_bits binary32 p }
 {
-    if 0x7f80_0000 < p % 0x8000_0000 {
-        0.0 / 0.0
-    } else {
-        f32::from_bits(p)
-    }
+    std::num::f32_from_bits_with_nan(p)
 }
 
 // The 16 hexadecimal digits of w, in lower case, and a line feed.
@@ -57,9 +54,7 @@ pub fn hex_line(w: u64) -> [u8; 17]
 {
     let mut line = [b'\n'; 17];
     let mut rest = w;
-    let mut i = 16;
-    while 0 < i {
-        i -= 1;
+    for i in (0..16).rev() {
         line[i] = hex_digit(rest % 16);
         rest /= 16;
     }

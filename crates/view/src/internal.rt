@@ -1,12 +1,11 @@
-// Making a view and reading through it. An enum cannot hold a reference, so making a view cannot
-// answer the view or a 2: `new` requires a capture, and `pixel_at` tests for one and gives 2.
+// Making a view and reading through it: `new` requires a capture, and `pixel_at` tests for one.
 ghost use Rattle.std.specs.Prelude.{◌≡◌, ◌<◌};
 ghost use Rattle.frame.specs.Image.{image, px};
 ghost use Rattle.frame.specs.Limits.{CaptureHeld};
 ghost use Rattle.view.specs.Views.{pixel_of};
 
-use super::{Pixel, RgbImage};
-use frame::Rgb;
+use super::RgbImage;
+use frame::{Refusal, Rgb};
 
 pub fn new<'a>(data: &'a [u8], w: usize, h: usize) -> RgbImage<'a>
     requires { CaptureHeld (image w h «data».now) }
@@ -30,19 +29,22 @@ pub fn read(data: &[u8], w: usize, h: usize, x: usize, y: usize) -> Rgb
     px(new(data, w, h), x, y)
 }
 
-// The same of any bytes, numbers and place, with the tests.
-pub fn pixel_at(capture: &[u8], w: usize, h: usize, x: usize, y: usize) -> Pixel
+// The same of any bytes, numbers and place: refusal 2 where they are no capture, and None where the
+// picture has no such pixel.
+pub fn pixel_at(
+    capture: &[u8],
+    w: usize,
+    h: usize,
+    x: usize,
+    y: usize,
+) -> Result<Option<Rgb>, Refusal>
     ensures { result ≡ pixel_of (image w h capture.now) x y }
 {
     if frame::internal::capture_wrong(capture, w, h) {
-        return Pixel::Refused(2);
+        return Err(Refusal::CaptureWrong);
     }
-    if x >= w {
-        return Pixel::Outside;
+    if x >= w || y >= h {
+        return Ok(None);
     }
-    if y >= h {
-        return Pixel::Outside;
-    }
-    let c = read(capture, w, h, x, y);
-    Pixel::Is(c)
+    Ok(Some(read(capture, w, h, x, y)))
 }

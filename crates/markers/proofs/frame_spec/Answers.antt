@@ -1,40 +1,57 @@
 -- `markers::frame_spec` meets its contract. Assumes nothing.
+use mathlib.Core.Bool.{Bool, true, false, not, cond}
+use mathlib.Core.Path.{◌≡◌, refl, sym, ap, ◌∙◌}
 use Prim.Native.Nat.{ℕ}
-use mathlib.Core.Bool.{not, false}
-use mathlib.Core.Path.{◌≡◌, sym, ap, ◌∙◌}
-use borrow.Author.Tests.{not-true, not-false}
-use Rattle.frame.specs.Refusals.{frame_outside, frame_tests, cell_held}
-use Rattle.frame.proofs.Lowest.{lowest_first, lowest_next, lowest_none}
-use Rattle.frame.proofs.Given.{framed_refused, framed_accepted}
-use Rattle.frame.proofs.Held.{cell_most}
+use native.Mathlib.Omega.{arith}
+use Rattle.std.specs.Prelude.{Ok, Err}
+use Rattle.std.proofs.lemmas.Result.{err_from_is_err_and}
+use Rattle.frame.specs.Refusals.{frame_outside, frame_tests, cell_held, answer_for}
+use Rattle.frame.specs.declared.FrameSpec.{FrameSpec}
+use Rattle.frame.specs.declared.refusals.Refusal.{Refusal}
+use Rattle.frame.specs.declared.refusals.Refusal.TheVariants.{FrameOutside}
+use Rattle.frame.proofs.Given.{answer_first, answer_next, answer_none}
 use Rattle.markers.specs.Layout.{margin_for, frame_spec}
-use Rattle.frame.specs.declared.Framed.TheVariants as F
+use Rattle.markers.specs.Promises.{cell_tests}
 use Rattle.markers.proofs.Sizes.{cell_outside}
 use Rattle.markers.proofs.frame_spec.Goals as goal
 
--- the frame that is made is the definition's
-made : (width height cell margin : ℕ) → margin ≡ margin_for cell → record { width = width; height = height; cell = cell; margin = margin } ≡ frame_spec width height cell
-unfolding frame_spec
-made width height cell margin e = rw e
+module _ (width height cell : ℕ) where
+  -- the frame with a margin
+  abbrev made : ℕ → FrameSpec
+  made margin = record { width = width; height = height; cell = cell; margin = margin }
 
-pub returns-then-not-cell_held : goal.returns-then-not-cell_held
-unfolding frame_tests frame_spec
-returns-then-not-cell_held c =
-    let e : cell_held c.args.cell ≡ false = not-true _ (sym (ap not c.cell_held.ensures) ∙ (ap not c.if-not-cell_held.true)) in
-    framed_refused _ _ 0 (lowest_first 1 _ _ (cell_outside (frame_spec _ _ _) e))
+  -- where `margin_for` refuses, so does the definition
+  refused : (r : Refusal) → answer_for (cell_tests cell) (margin_for cell) ≡ Err r → Err r ≡ answer_for (frame_tests (frame_spec width height cell)) (frame_spec width height cell)
+  unfolding answer_for cell_tests frame_tests frame_spec
+  refused r = go (cell_held cell) (cell_outside (made (margin_for cell)))
+    where
+      go : (b : Bool) → (b ≡ false → frame_outside (made (margin_for cell)) ≡ true) → cond (not b) (Err FrameOutside) (Ok (margin_for cell)) ≡ Err r
+          → Err r ≡ cond (frame_outside (made (margin_for cell))) (Err FrameOutside) (Ok (made (margin_for cell)))
+      go true f e = let z : ◌≡◌ {A = ℕ} 0 1 = cc in absurd (omega arith)
+      go false f e = let d : r ≡ FrameOutside = cc in rw (f refl, d)
 
-pub margin_for-requires : goal.margin_for-requires
-margin_for-requires c = cell_most _ (not-false _ (sym (ap not c.cell_held.ensures) ∙ (ap not c.if-not-cell_held.false)))
+  -- and else the frame that is made is the definition's
+  given : (margin : ℕ) → answer_for (cell_tests cell) (margin_for cell) ≡ Ok margin → made margin ≡ frame_spec width height cell
+  unfolding answer_for cell_tests frame_spec
+  given margin = go (cell_held cell)
+    where
+      go : (b : Bool) → cond (not b) (Err FrameOutside) (Ok (margin_for cell)) ≡ Ok margin → made margin ≡ made (margin_for cell)
+      go true e = cc
+      go false e = let z : ◌≡◌ {A = ℕ} 0 1 = cc in absurd (omega arith)
+
+pub returns-in_err-margin : goal.returns-in_err-margin
+returns-in_err-margin c =
+    let p = err_from_is_err_and c.from_residual.result c.from_residual.ensures.1 in
+    rw (p.1, p.2) (refused _ _ _ _ (sym c.margin_for.ensures ∙ c.in_err-margin.was))
 
 pub returns-then-frame_outside : goal.returns-then-frame_outside
 unfolding frame_tests
 returns-then-frame_outside c =
-    framed_refused _ _ 0
-    (lowest_first 1 _ _ (ap frame_outside (sym (made _ _ _ _ c.margin_for.ensures)) ∙ sym c.frame_outside.ensures ∙ c.if-frame_outside.true))
+    answer_first _ _ _ _
+    (ap frame_outside (sym (given _ _ _ _ (sym c.margin_for.ensures ∙ c.in_ok-margin.was))) ∙ sym c.frame_outside.ensures ∙ c.if-frame_outside.true)
 
 pub returns : goal.returns
 unfolding frame_tests
 returns c =
-    ap F.Is (made _ _ _ _ c.margin_for.ensures)
-    ∙ framed_accepted _ _
-    (lowest_next 1 _ _ (ap frame_outside (sym (made _ _ _ _ c.margin_for.ensures)) ∙ sym c.frame_outside.ensures ∙ c.if-frame_outside.false) ∙ lowest_none)
+    let g = given _ _ _ _ (sym c.margin_for.ensures ∙ c.in_ok-margin.was) in
+    ap Ok g ∙ answer_next _ _ _ _ (ap frame_outside (sym g) ∙ sym c.frame_outside.ensures ∙ c.if-frame_outside.false) (answer_none _)

@@ -1,21 +1,18 @@
 -- `markers::margin_for` meets its contract. Assumes nothing.
-use mathlib.Core.Bool.{not}
-use mathlib.Core.Path.{sym, ap, ◌∙◌}
-use borrow.Author.Tests.{not-false}
-use Rattle.markers.specs.Promises.{cell_tests}
-use Rattle.frame.proofs.Lowest.{lowest_first, lowest_next, lowest_none}
-use Rattle.frame.proofs.Given.{number_refused, number_accepted}
+use mathlib.Core.Path.{ap, ◌∙◌}
+use Rattle.std.specs.Prelude.{Ok}
+use Rattle.frame.proofs.Given.{answer_first, answer_next, answer_none}
 use Rattle.frame.proofs.Held.{cell_most}
-use Rattle.frame.specs.declared.Number.TheVariants as N
+use Rattle.markers.specs.Promises.{cell_tests}
 use Rattle.markers.proofs.margin_for.Goals as goal
 
 pub returns-then-not-cell_held : goal.returns-then-not-cell_held
 unfolding cell_tests
-returns-then-not-cell_held c = number_refused _ _ 0 (lowest_first 1 _ _ (sym (ap not c.cell_held.ensures) ∙ (ap not c.if-not-cell_held.true)))
+returns-then-not-cell_held c = answer_first _ _ _ _ (cc)
 
 pub margin_for-requires : goal.margin_for-requires
-margin_for-requires c = cell_most _ (not-false _ (sym (ap not c.cell_held.ensures) ∙ (ap not c.if-not-cell_held.false)))
+margin_for-requires c = cell_most _ (cc)
 
 pub returns : goal.returns
 unfolding cell_tests
-returns c = ap N.Is c.margin_for.ensures ∙ number_accepted _ _ (lowest_next 1 _ _ (sym (ap not c.cell_held.ensures) ∙ (ap not c.if-not-cell_held.false)) ∙ lowest_none)
+returns c = ap Ok c.margin_for.ensures ∙ answer_next _ _ _ _ (cc) (answer_none _)

@@ -1,16 +1,12 @@
 -- `newton` meets its contract. The loop's invariant: the steps that are left lead from u to the answer. Assumes nothing.
-use mathlib.Core.Path.{◌≡◌, refl, sym, ap, ◌∙◌}
+use mathlib.Core.Path.{◌≡◌, sym, ap, ◌∙◌}
 use Prim.Native.Nat.{ℕ, suc, ◌+◌, ◌-◌}
 use native.Mathlib.Omega.{arith}
 use lib.Ieee.{of_bits, of_int}
-use borrow.Author.Rules.{rules}
 use Rattle.float.specs.Floats.{d64}
 use Rattle.radial.specs.Lens.{newton}
 use Rattle.radial.proofs.Steps.{newton_done, newton_stop, newton_go}
 use Rattle.radial.proofs.newton.Goals as goal
-
-pub loop-init : goal.loop-init
-loop-init c = (refl, search rules)
 
 pub returns-then-abs : goal.returns-then-abs
 unfolding of_bits of_int d64

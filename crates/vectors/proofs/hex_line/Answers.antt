@@ -25,18 +25,18 @@ digits_step (suc j) rest g line some room e =
 
 pub loop-i-init : goal.loop-i-init
 unfolding hex_line
-loop-i-init c = (refl, omega arith, refl)
+loop-i-init c = record { long = refl; same = refl }
 
 pub loop-i-preserved : goal.loop-i-preserved
 loop-i-preserved c =
-    let l = c.loop-i in (
-      simp length-set l.invariant.0,
-      omega arith,
-      digits_step l.i l.rest c.hex_digit.result l.line c.loop-i-test.true (omega arith) c.hex_digit.ensures ∙ l.invariant.2,
-    )
+    let l = c.loop-i in
+    record {
+      long = simp length-set l.invariant.long;
+      same = digits_step l.i l.rest c.hex_digit.result l.line c.loop-i-test.true (omega arith) c.hex_digit.ensures ∙ l.invariant.same;
+    }
 
 pub returns : goal.returns
 returns c =
     let l = c.loop-i in
     let e : l.i ≡ 0 = omega arith in
-    subst (λ (i : ℕ). last_digits 16 i l.rest ++ drop i l.line ≡ hex_line c.args.w) e l.invariant.2
+    subst (λ (i : ℕ). last_digits 16 i l.rest ++ drop i l.line ≡ hex_line c.args.w) e l.invariant.same

@@ -2,53 +2,24 @@
 use lib.Ieee.{nan, binary32, sub, lt, of_bits, of_int}
 use native.Mathlib.Omega.{arith}
 use Prim.Native.Nat.{◌+◌, ◌*◌}
-use mathlib.Core.Path.{◌≡◌, sym, ap, ◌∙◌}
+use mathlib.Core.Bool.{Bool, true, false, cond}
+use mathlib.Core.Path.{◌≡◌, refl, ap, ◌∙◌}
+use mir.Val.{bool_byte}
 use lib.ListN.{get_or}
-use Rattle.base.proofs.Pick.{pick_yes, pick_no}
 use Rattle.float.specs.Floats.{f32}
 use Rattle.mask.specs.Mask.{is_dark}
-use Rattle.mask.proofs.Entries.{Place, place}
 use Rattle.mask.proofs.Boxes.{mean_is}
 use Rattle.mask.proofs.internal.dark.Goals as goal
 
-pub overflow_mul-i : goal.overflow_mul-i
-overflow_mul-i c =
-    let here : let a = c.args in
-    Place a.x a.y a.w a.h = place _ _ _ _ (omega arith) (omega arith) in
-    let k = here in omega arith
+byte_is : (b : Bool) → bool_byte b ≡ cond b 1 0
+byte_is true = refl
+byte_is false = refl
 
-pub overflow_add-i : goal.overflow_add-i
-overflow_add-i c =
-    let here : let a = c.args in
-    Place a.x a.y a.w a.h = place _ _ _ _ (omega arith) (omega arith) in
-    let k = here in omega arith
-
-pub offset_bounds-luma-i : goal.offset_bounds-luma-i
-offset_bounds-luma-i c =
-    let here : let a = c.args in
-    Place a.x a.y a.w a.h = place _ _ _ _ (omega arith) (omega arith) in
-    let k = here in omega arith
-
-pub bounds-luma-i : goal.bounds-luma-i
-bounds-luma-i c =
-    let here : let a = c.args in
-    Place a.x a.y a.w a.h = place _ _ _ _ (omega arith) (omega arith) in
-    let k = here in omega arith
-
-pub returns-then-luma-i : goal.returns-then-luma-i
+pub returns : goal.returns
 unfolding of_bits of_int is_dark
-returns-then-luma-i c =
-    let same : let a = c.args in
-    lt (get_or a.luma.now (a.y * a.w + a.x) nan) (sub binary32 c.box_mean-mean.result (f32 8)) ≡ is_dark a.luma.now a.w a.h a.radius a.x a.y = let a = c.args in
-    ap (λ m. lt (get_or a.luma.now (a.y * a.w + a.x) nan) (sub binary32 m (f32 8)))
-    (c.box_mean-mean.ensures ∙ mean_is a.luma.now a.integral.now a.w a.h c.requires.7 a.radius a.x a.y (omega arith) (omega arith)) in
-    pick_yes _ _ _ (sym (same) ∙ c.if-luma-i.true)
-
-pub returns-else-luma-i : goal.returns-else-luma-i
-unfolding of_bits of_int is_dark
-returns-else-luma-i c =
-    let same : let a = c.args in
-    lt (get_or a.luma.now (a.y * a.w + a.x) nan) (sub binary32 c.box_mean-mean.result (f32 8)) ≡ is_dark a.luma.now a.w a.h a.radius a.x a.y = let a = c.args in
-    ap (λ m. lt (get_or a.luma.now (a.y * a.w + a.x) nan) (sub binary32 m (f32 8)))
-    (c.box_mean-mean.ensures ∙ mean_is a.luma.now a.integral.now a.w a.h c.requires.7 a.radius a.x a.y (omega arith) (omega arith)) in
-    pick_no _ _ _ (sym (same) ∙ c.if-luma-i.false)
+returns c =
+    let a = c.args in
+    let mean = c.box_mean-mean.ensures ∙ mean_is a.luma.now a.integral.now a.w a.h c.requires.7 a.radius a.x a.y (omega arith) (omega arith) in
+    c.from.ensures
+    ∙ ap (λ m. bool_byte (lt (get_or a.luma.now (a.y * a.w + a.x) nan) (sub binary32 m (f32 8)))) mean
+    ∙ byte_is _

@@ -1,23 +1,26 @@
 -- `mask::internal::first_row` meets its contract. Assumes nothing.
-use lib.Ieee.{of_bits, of_int}
-use native.Mathlib.Omega.{arith}
-use Prim.Native.Nat.{◌-◌}
-use mathlib.Core.Path.{refl}
-use lib.ListN.{length-set}
-use Rattle.base.proofs.Plane.{filled_begin, filled_step, filled_end}
+use lib.Ieee.{nan, of_bits, of_int}
+use lib.ListN.{replicate, drop}
+use lib.Seq.{length-take-le}
+use mathlib.Core.List.{◌++◌, ◌∷◌}
+use mathlib.Core.Path.{◌≡◌, refl, sym, ap, ◌∙◌}
+use Prim.Native.Nat.{ℕ, zero, suc}
+use Rattle.base.specs.Loops.{table}
+use Rattle.base.proofs.Table.{filled_front}
+use Rattle.float.specs.Floats.{f64}
 use Rattle.mask.proofs.internal.first_row.Goals as goal
 
-pub loop-x-init : goal.loop-x-init
-loop-x-init c = (filled_begin _ _, omega arith, refl)
-
-pub loop-x-preserved : goal.loop-x-preserved
-unfolding of_bits of_int
-loop-x-preserved c =
-    let l = c.loop-x in
-    (filled_step _ _ _ _ l.invariant.0 refl, omega arith, simp length-set l.invariant.2)
-
-pub shape_of-integral : goal.shape_of-integral
-shape_of-integral c = c.loop-x.invariant.2
+-- a table of one value
+constant : {A : Type 0} (v : A) (n : ℕ) → replicate n v ≡ table (λ k. v) n
+unfolding table
+constant v zero = refl
+constant v (suc n) = ap (λ l. v ∷ l) (constant v n)
 
 pub returns : goal.returns
-returns c = filled_end _ _ _ _ c.loop-x.invariant.0 (omega arith)
+unfolding of_bits of_int
+returns c =
+    let a = c.args in
+    let l = a.integral.now in
+    ap (λ x. x ++ drop a.n l)
+    (c.fill.ensures.after (λ y h. h) ∙ ap (λ n. replicate n (f64 0)) (length-take-le a.n l c.requires) ∙ constant (f64 0) a.n)
+    ∙ sym (filled_front (λ k. f64 0) a.n nan l c.requires)

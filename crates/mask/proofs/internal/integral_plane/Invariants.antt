@@ -1,7 +1,7 @@
 -- `mask::internal::integral_plane` meets its contract. The loop's invariant: the integral is filled up to its row y + 1. Assumes nothing.
 use mathlib.Core.List.{List}
 use lib.Ieee.{Float}
-use Prim.Native.Nat.{◌≤◌, ◌+◌, ◌*◌, ◌-◌}
+use Prim.Native.Nat.{◌≤◌, ◌+◌, ◌*◌}
 use mathlib.Core.Path.{◌≡◌}
 use lib.ListN.{length}
 use Rattle.base.specs.Loops.{filled}
@@ -13,6 +13,3 @@ invariant-loop-y v =
     ((l : List Float) → v.initial.integral ≡ filled (integral_entry v.luma v.w) (v.w + 1) l → v.integral ≡ filled (integral_entry v.luma v.w) ((v.y + 1) * (v.w + 1)) l)
     × (v.y ≤ v.h)
     × (length v.integral ≡ length v.initial.integral)
-
-abbrev pub decreases-loop-y : goal.decreases-loop-y
-decreases-loop-y l = l.h - l.y

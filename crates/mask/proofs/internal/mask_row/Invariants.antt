@@ -1,6 +1,6 @@
 -- `mask::internal::mask_row` meets its contract. The loop's invariant: the mask is filled up to column x of the row. Assumes nothing.
 use mathlib.Core.List.{List}
-use Prim.Native.Nat.{ℕ, ◌≤◌, ◌+◌, ◌*◌, ◌-◌}
+use Prim.Native.Nat.{ℕ, ◌≤◌, ◌+◌, ◌*◌}
 use mathlib.Core.Path.{◌≡◌}
 use lib.ListN.{length}
 use Rattle.base.specs.Loops.{filled}
@@ -12,6 +12,3 @@ invariant-loop-x v =
     ((l : List ℕ) → v.initial.mask ≡ filled (dark_entry v.luma v.w v.h v.radius) (v.y * v.w) l → v.mask ≡ filled (dark_entry v.luma v.w v.h v.radius) (v.y * v.w + v.x) l)
     × (v.x ≤ v.w)
     × (length v.mask ≡ length v.initial.mask)
-
-abbrev pub decreases-loop-x : goal.decreases-loop-x
-decreases-loop-x l = l.w - l.x

@@ -1,16 +1,9 @@
 -- `sampling::internal::inside` meets its contract. Assumes nothing.
 use mathlib.Core.Bool.{◌&&◌}
-use native.Mathlib.Omega.{arith}
 use lib.Ieee.{lt, le, of_bits, of_int}
 use Rattle.float.specs.Floats.{f64}
 use Rattle.sampling.specs.Reading.{inside}
 use Rattle.sampling.proofs.internal.inside.Goals as goal
-
-pub to_f64-requires : goal.to_f64-requires
-to_f64-requires c = omega arith
-
-pub to_f64-requires-2 : goal.to_f64-requires-2
-to_f64-requires-2 c = omega arith
 
 pub returns : goal.returns
 unfolding inside of_bits of_int

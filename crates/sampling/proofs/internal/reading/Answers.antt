@@ -3,6 +3,7 @@ use native.Mathlib.Omega.{arith}
 use Prim.Native.Nat.{ℕ, ◌<◌}
 use mathlib.Core.Path.{◌≡◌, ap, ◌∙◌}
 use Rattle.frame.specs.Image.{Image, px}
+use Rattle.frame.specs.Limits.{CaptureHeld}
 use Rattle.frame.specs.declared.Rgb.{Rgb}
 use Rattle.frame.specs.declared.Point.{Point}
 use Rattle.sampling.specs.declared.Neighbours.{Neighbours}
@@ -26,29 +27,41 @@ placed : (img : Image) (p : Point) (s t : Neighbours) → s ≡ neighbours_of im
 unfolding bilinear
 placed img p s t e f = cc
 
+-- the columns and rows of the four pixels
+record Within (img : Image) (s t : Neighbours) : Type 0 where
+  left : s.first < img.w
+  right : s.next < img.w
+  above : t.first < img.h
+  below : t.next < img.h
+
+within : (img : Image) (p : Point) (s t : Neighbours) → CaptureHeld img → s ≡ neighbours_of img.w p.x → t ≡ neighbours_of img.h p.y → Within img s t
+within img p s t h e f =
+    record {
+      left = omega (arith, ap (λ z. z.first) e, first_in img.w p.x h.w_least h.w_most);
+      right = omega (arith, ap (λ z. z.next) e, next_in img.w p.x h.w_least h.w_most);
+      above = omega (arith, ap (λ z. z.first) f, first_in img.h p.y h.h_least h.h_most);
+      below = omega (arith, ap (λ z. z.next) f, next_in img.h p.y h.h_least h.h_most);
+    }
+
 pub read-a-requires : goal.read-a-requires
 read-a-requires c =
-    let down_first : c.neighbours-down.result.first < c.args.h = omega (arith, ap (λ s. s.first) c.neighbours-down.ensures, first_in c.args.h c.args.p.y (omega arith) (omega arith)) in
-    let across_first : c.neighbours-across.result.first < c.args.w = omega (arith, ap (λ s. s.first) c.neighbours-across.ensures, first_in c.args.w c.args.p.x (omega arith) (omega arith)) in
-    (c.requires, across_first, down_first)
+    let k = within _ c.args.p _ _ c.requires c.neighbours-across.ensures c.neighbours-down.ensures in
+    (c.requires, k.left, k.above)
 
 pub read-b-requires : goal.read-b-requires
 read-b-requires c =
-    let down_first : c.neighbours-down.result.first < c.args.h = omega (arith, ap (λ s. s.first) c.neighbours-down.ensures, first_in c.args.h c.args.p.y (omega arith) (omega arith)) in
-    let across_next : c.neighbours-across.result.next < c.args.w = omega (arith, ap (λ s. s.next) c.neighbours-across.ensures, next_in c.args.w c.args.p.x (omega arith) (omega arith)) in
-    (c.requires, across_next, down_first)
+    let k = within _ c.args.p _ _ c.requires c.neighbours-across.ensures c.neighbours-down.ensures in
+    (c.requires, k.right, k.above)
 
 pub read-c-requires : goal.read-c-requires
 read-c-requires c =
-    let down_next : c.neighbours-down.result.next < c.args.h = omega (arith, ap (λ s. s.next) c.neighbours-down.ensures, next_in c.args.h c.args.p.y (omega arith) (omega arith)) in
-    let across_first : c.neighbours-across.result.first < c.args.w = omega (arith, ap (λ s. s.first) c.neighbours-across.ensures, first_in c.args.w c.args.p.x (omega arith) (omega arith)) in
-    (c.requires, across_first, down_next)
+    let k = within _ c.args.p _ _ c.requires c.neighbours-across.ensures c.neighbours-down.ensures in
+    (c.requires, k.left, k.below)
 
 pub read-d-requires : goal.read-d-requires
 read-d-requires c =
-    let down_next : c.neighbours-down.result.next < c.args.h = omega (arith, ap (λ s. s.next) c.neighbours-down.ensures, next_in c.args.h c.args.p.y (omega arith) (omega arith)) in
-    let across_next : c.neighbours-across.result.next < c.args.w = omega (arith, ap (λ s. s.next) c.neighbours-across.ensures, next_in c.args.w c.args.p.x (omega arith) (omega arith)) in
-    (c.requires, across_next, down_next)
+    let k = within _ c.args.p _ _ c.requires c.neighbours-across.ensures c.neighbours-down.ensures in
+    (c.requires, k.right, k.below)
 
 pub returns : goal.returns
 returns c =

@@ -4,4 +4,4 @@ use Rattle.sampling.proofs.internal.sample.Goals as goal
 
 pub returns : goal.returns
 unfolding sample_at
-returns c = λ i. record { colour = c.reading-colour.ensures i; inside = c.inside-within.ensures i }
+returns c = λ i. record { colour = c.reading.ensures i; inside = c.inside.ensures i }

@@ -23,11 +23,11 @@ module _ (w h lm ls lk ll : ℕ) where
 
   pub wrong_sides : sides_wrong w h ≡ true → 2 ≡ tests
   unfolding patch_tests
-  wrong_sides e = sym (lowest_first 2 _ _ (or_first _ _ e))
+  wrong_sides e = sym (lowest_first _ _ _ (or_first _ _ e))
 
   pub wrong_length : (lm ≡ w * h → ⊥) → 2 ≡ tests
   unfolding patch_tests
-  wrong_length o = sym (lowest_first 2 _ _ (or_second (sides_wrong w h) _ (ap not (ne_eqb lm (w * h) o))))
+  wrong_length o = sym (lowest_first _ _ _ (or_second (sides_wrong w h) _ (ap not (ne_eqb lm (w * h) o))))
 
   module _ (e : sides_wrong w h ≡ false) (l : lm ≡ w * h) where
     passed : sides_wrong w h || not (eqb lm (w * h)) ≡ false
@@ -35,22 +35,22 @@ module _ (w h lm ls lk ll : ℕ) where
 
     pub short_seen : ls < w * h → 3 ≡ tests
     unfolding patch_tests
-    short_seen s = sym (lowest_next 2 _ _ passed ∙ lowest_first 3 _ _ (or_first _ _ (lt-ltb ls (w * h) s)))
+    short_seen s = sym (lowest_next _ _ _ passed ∙ lowest_first _ _ _ (or_first _ _ (lt-ltb ls (w * h) s)))
 
     pub short_waiting : lk < w * h → 3 ≡ tests
     unfolding patch_tests
-    short_waiting s = sym (lowest_next 2 _ _ passed ∙ lowest_first 3 _ _ (or_second (ltb ls (w * h)) _ (or_first _ _ (lt-ltb lk (w * h) s))))
+    short_waiting s = sym (lowest_next _ _ _ passed ∙ lowest_first _ _ _ (or_second (ltb ls (w * h)) _ (or_first _ _ (lt-ltb lk (w * h) s))))
 
     pub short_patches_lem : ll < record_length * ((w * h + 1) / 2) → 3 ≡ tests
     unfolding patch_tests
-    short_patches_lem s = sym (lowest_next 2 _ _ passed ∙ lowest_first 3 _ _ (or_second (ltb ls (w * h)) _ (or_second (ltb lk (w * h)) _ (lt-ltb ll (record_length * ((w * h + 1) / 2)) s))))
+    short_patches_lem s = sym (lowest_next _ _ _ passed ∙ lowest_first _ _ _ (or_second (ltb ls (w * h)) _ (or_second (ltb lk (w * h)) _ (lt-ltb ll (record_length * ((w * h + 1) / 2)) s))))
 
     pub long_enough : w * h ≤ ls → w * h ≤ lk → record_length * ((w * h + 1) / 2) ≤ ll → 0 ≡ tests
     unfolding patch_tests
     long_enough a b c =
         sym
-        (lowest_next 2 _ _ passed
-        ∙ lowest_next 3 _ _ (or_neither _ _ (le-ltb ls (w * h) a) (or_neither _ _ (le-ltb lk (w * h) b) (le-ltb ll (record_length * ((w * h + 1) / 2)) c)))
+        (lowest_next _ _ _ passed
+        ∙ lowest_next _ _ _ (or_neither _ _ (le-ltb ls (w * h) a) (or_neither _ _ (le-ltb lk (w * h) b) (le-ltb ll (record_length * ((w * h + 1) / 2)) c)))
         ∙ lowest_none)
 
   -- what passes the tests
