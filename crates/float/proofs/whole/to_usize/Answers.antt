@@ -1,45 +1,22 @@
--- `float::to_usize` meets its contract. Below 2 ^ 53 the exponent's field is at most 1075, so the digits are shifted down. Assumes nothing.
-use Rattle.std.proofs.Common.{◌/◌, ◌^◌, ◌≤◌, T, sym, subst, le_trans, lit≤}
-use lib.Ieee.{binary64, fits, le, of_bits, to_bits}
-use Rattle.base.proofs.Tests.{holds}
-use Rattle.std.proofs.num.Truncating.{one, at_least_one, is_no_nan, down_by, cut_down}
-use Rattle.float.proofs.whole.Saturate.{over, in_range, nothing, InRange}
-use Rattle.float.proofs.whole.Exponent.{exponent}
+-- `float::to_usize` meets its contract. Assumes nothing.
+use Rattle.std.proofs.Common.{◌≡◌, true, false, lit≤}
+use lib.Ieee.{Float, binary64, le, of_bits}
+use Rattle.base.proofs.Tests.{holds, holds_not}
+use Rattle.float.proofs.whole.Saturate.{capped, in_range, nothing, InRange}
 use Rattle.float.proofs.whole.to_usize.Goals as goal
 
-range : (c : goal.Then-x-2) → InRange 53 c.args.x
+range : (x : Float) → le (of_bits binary64 0x3ff0_0000_0000_0000) x ≡ true → le (of_bits binary64 0x43f0_0000_0000_0000) x ≡ false → InRange 64 x
+unfolding of_bits le
+range x h k = in_range 64 x tt (lit≤ tt) (holds h) (holds_not k)
+
+pub truncating_f64_to_u64-requires : goal.truncating_f64_to_u64-requires
+truncating_f64_to_u64-requires c =
+    let r = range c.args.x c.if-x-2.true c.if-x.false in
+    record { lower_bound = r.low; upper_bound = r.high }
+
+pub returns-then-x : goal.returns-then-x
 unfolding of_bits
-range c = in_range 53 _ (lit≤ tt) (over _ c.if-x.true) (holds c.if-x-2.true)
-
-few : (c : goal.Then-x-2) → to_bits binary64 c.args.x / 2 ^ 52 ≤ 1075
-unfolding of_bits
-few c =
-    let held : T (fits binary64 c.args.x) = subst T (sym c.well_formed.0.1) tt in
-    le_trans (exponent 53 _ (held) (over _ c.if-x.true) (holds c.if-x-2.true)) (lit≤ tt)
-
-pub float_to_bits-b : goal.float_to_bits-b
-float_to_bits-b c =
-    let least : T (le one c.args.x) = at_least_one c.args.x c.if-x.true in
-    let held : T (fits binary64 c.args.x) = subst T (sym c.well_formed.0.1) tt in
-    is_no_nan _ (held) (least) (range c).high
-
-pub overflow_sub-result : goal.overflow_sub-result
-overflow_sub-result c = few c
-
-pub overflow_shr-result-then-x-2 : goal.overflow_shr-result-then-x-2
-overflow_shr-result-then-x-2 c =
-    let least : T (le one c.args.x) = at_least_one c.args.x c.if-x.true in
-    let held : T (fits binary64 c.args.x) = subst T (sym c.well_formed.0.1) tt in
-    down_by _ (held) (least) (range c).high
-
-pub returns-then-x-2 : goal.returns-then-x-2
-returns-then-x-2 c =
-    let least : T (le one c.args.x) = at_least_one c.args.x c.if-x.true in
-    let held : T (fits binary64 c.args.x) = subst T (sym c.well_formed.0.1) tt in
-    cut_down _ (held) (least) (range c).high (few c)
+returns-then-x c = capped 64 _ (holds c.if-x.true)
 
 pub returns-else-x-2 : goal.returns-else-x-2
-returns-else-x-2 c = c.large_to_usize.ensures
-
-pub returns-else-x : goal.returns-else-x
-returns-else-x c = nothing 64 _ c.if-x.false
+returns-else-x-2 c = nothing 64 _ c.if-x-2.false
