@@ -1,3 +1,2 @@
--- Lemmas of `float::whole`: saturation and floor.
+-- Lemmas of `float::whole`: floor.
 pub mod Floor
-pub mod Saturate

@@ -7,29 +7,17 @@ ghost use Rattle.float.specs.Floats.{f64, as_u8, as_usize};
 pub fn to_u8(x: f64) -> u8
     ensures { result ≡ as_u8 x }
 {
-    if x >= 256.0 {
-        255
-    } else if x >= 1.0 {
-        std::num::truncating_f64_to_u64(x) as u8
-    } else {
-        0
-    }
+    std::num::saturating_f64_to_u8(x)
 }
 
 // Rust's `x as usize`.
 pub fn to_usize(x: f64) -> usize
     ensures { result ≡ as_usize x }
 {
-    if x >= 18446744073709551616.0 {
-        usize::MAX
-    } else if x >= 1.0 {
-        std::num::truncating_f64_to_u64(x) as usize
-    } else {
-        0
-    }
+    std::num::saturating_f64_to_usize(x)
 }
 
-// A count up to 2^53 as a float, by one instruction.
+// A count up to 2^53 as a float, by one instruction; `n as f64` takes five.
 pub fn to_f64(n: usize) -> f64
     requires { n ≤ 2 ^ 53 }
     ensures { result ≡ f64 n }
