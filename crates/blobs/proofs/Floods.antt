@@ -193,6 +193,9 @@ progress_turn pix i f v = progress_take pix f f.waiting refl v
 pub progress_turns : {m : List ℕ} {w a : ℕ} {s₀ : List ℕ} → Ready m w s₀ a → (n : ℕ) → Progress m w a s₀ (turns n (flood_step m w) (begun w a s₀))
 progress_turns {m} {w} {a} {s₀} g n = turns_keep (flood_step m w) (begun w a s₀) (Progress m w a s₀) (progress_start g) (λ i f v. progress_turn g.pixel i f v) n
 
+pub progress_of : {m : List ℕ} {w a : ℕ} {s₀ : List ℕ} {f : Flooding} → Ready m w s₀ a → (n : ℕ) → f ≡ turns n (flood_step m w) (begun w a s₀) → Progress m w a s₀ f
+progress_of {m} {w} {a} {s₀} g n e = subst (Progress m w a s₀) (sym e) (progress_turns g n)
+
 -- ---- the bounds of a flood's numbers
 pub progress_area : {m : List ℕ} {w a : ℕ} {s₀ : List ℕ} {f : Flooding} → Progress m w a s₀ f → f.blob.area + length f.waiting ≤ length m
 progress_area {m} {f = f} v = omega (arith, v.area, total_most one (at f.seen) 1 (length m) v.held.flags (λ q l. omega arith), mul-one (length m))

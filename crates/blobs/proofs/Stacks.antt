@@ -13,11 +13,11 @@ use Rattle.base.proofs.Pick.{pick_yes, pick_no, cond_elim}
 use Rattle.base.proofs.Turns.{turns_stay}
 use Rattle.blobs.specs.declared.Blob.{Blob}
 use Rattle.blobs.specs.Patches.{sides, patch_at, stored, record_length}
-use Rattle.blobs.specs.Stack.{Marking, marking, stack_of, visit, visit_left, visit_right, visit_up, spread, grow, no_blob, Flooding, flooding, begun, take, flood_step}
+use Rattle.blobs.specs.Stack.{Marking, marking, stack_of, visit, spread, grow, no_blob, Flooding, flooding, begun, take, flood_step}
 use Rattle.blobs.specs.Stack.{flood, Scanned, scanned, listed, scan}
-use Rattle.blobs.specs.Ready.{at, Held, Stacked, Pixel}
-use Rattle.blobs.proofs.Steps.{room, reach_left, reach_right, reach_up}
-use Rattle.blobs.proofs.Floods.{flood_step_none}
+use Rattle.blobs.specs.Ready.{at, Held, Stacked, Pixel, Ready}
+use Rattle.blobs.proofs.Steps.{Waits, newest, room}
+use Rattle.blobs.proofs.Floods.{progress_of, progress_area, held_pop, pixel_at_lem, flood_step_none}
 use Rattle.blobs.proofs.Records.{stored_table}
 
 -- ---- the stack
@@ -63,17 +63,6 @@ module _ (m : List ℕ) (q : ℕ) (a : Marking) where
 pub stack_room : {m s k : List ℕ} {t : ℕ} (q : ℕ) → Stacked m s k t → q < length m → at s q ≡ 0 → t < length k
 stack_room {m} {s} {k} {t} q h l z = omega (arith, room q h.held l z, length_stack k t, h.long)
 
--- ---- the stack after a visit
-module _ {m : List ℕ} {w p : ℕ} {s k : List ℕ} {t : ℕ} {s' k' : List ℕ} {t' : ℕ} (x : Pixel m w p) (h : Stacked m s k t) (l : length k' ≡ length k) where
-  pub stacked_left : marking s' (stack_of k' t') ≡ visit_left m w p (marking s (stack_of k t)) → Stacked m s' k' t'
-  stacked_left e = record { held = subst (Held m) (sym e) (reach_left (marking s (stack_of k t)) x h.held).held; long = l ∙ h.long }
-
-  pub stacked_right : marking s' (stack_of k' t') ≡ visit_right m w p (marking s (stack_of k t)) → Stacked m s' k' t'
-  stacked_right e = record { held = subst (Held m) (sym e) (reach_right (marking s (stack_of k t)) x h.held).held; long = l ∙ h.long }
-
-  pub stacked_up : marking s' (stack_of k' t') ≡ visit_up m w p (marking s (stack_of k t)) → Stacked m s' k' t'
-  stacked_up e = record { held = subst (Held m) (sym e) (reach_up (marking s (stack_of k t)) x h.held).held; long = l ∙ h.long }
-
 -- ---- a flood's start, a turn and its end
 pub begun_is : (s k : List ℕ) (w a : ℕ) (b : Blob) → 0 < length k → b ≡ no_blob w a → flooding (set s a 1) (stack_of (set k 0 a) 1) b 1 ≡ begun w a s
 unfolding begun stack_of
@@ -88,6 +77,21 @@ module _ (m : List ℕ) (w i : ℕ) (s k : List ℕ) (t : ℕ) (b : Blob) (d : �
       let de' : d' ≡ max d (length (spread m w (at k l) (marking s (stack_of k l))).waiting) =
       de ∙ ap (max d) (sym (length_stack k' t') ∙ ap (λ (a : Marking). length a.waiting) e) in
       (λ j. flooding (e j).seen (e j).waiting (be j) (de' j)) ∙ sym (ap (take m w (flooding s (stack_of k t) b d)) (stack_pop k t l te))
+
+-- a flood that has counted as many pixels as it has taken turns
+module _ {m : List ℕ} {w a : ℕ} {s₀ : List ℕ} (g : Ready m w s₀ a) (s k : List ℕ) (t : ℕ) (b : Blob) (d : ℕ)
+    (e : flooding s (stack_of k t) b d ≡ turns b.area (flood_step m w) (begun w a s₀)) where
+  pub flood_counts : b.area + t ≤ length m
+  flood_counts = omega (arith, progress_area (progress_of g b.area e), length_stack k t)
+
+  -- the newest pixel, and the stack without it
+  pub flood_takes : (l : ℕ) → t ≡ l + 1 → Pixel m w (at k l)
+  flood_takes l te =
+      pixel_at_lem (at k l) g.pixel ((progress_of g b.area e).stacked (at k l) (subst (Waits (at k l)) (sym (stack_pop k t l te)) (newest refl)))
+
+  pub flood_pops : (l : ℕ) → t ≡ l + 1 → length k ≡ length m → Stacked m s k l
+  flood_pops l te long =
+      record { held = held_pop (subst (λ x. Held m (marking s x)) (stack_pop k t l te) (progress_of g b.area e).held); long = long }
 
 pub grow_area : (b b' : Blob) (x y s : ℕ) → b' ≡ grow b x y s → b'.area ≡ b.area + 1
 unfolding grow

@@ -12,11 +12,10 @@ use Rattle.base.specs.Loops.{every}
 use Rattle.base.proofs.Arith.{last_or}
 use Rattle.base.proofs.Every.{every_one, one_every}
 use Rattle.base.proofs.Tests.{and_left, and_right, and_both, or_cases, or_first, or_second, or_left, or_right, or_neither}
-use Rattle.frame.specs.Refusals.{Check, lowest_of}
-use Rattle.frame.specs.Answers.{number_as, number_for}
-use Rattle.frame.specs.declared.Number.TheVariants as N
+use Rattle.frame.specs.Refusals.{lowest_of}
 use Rattle.frame.proofs.Lowest.{lowest_of_lem}
-use Rattle.book.specs.Layout.{book_length, u32_at, count_in, Key, key_in, grade_in, zero_in}
+use Rattle.book.specs.Layout.{book_length, u32_at, count_in, key_in, grade_in, zero_in}
+use Rattle.book.specs.declared.keys.Key.{Key}
 use Rattle.book.specs.Promises.{key_before, rises_at, keys_rise, header_wrong, record_held, records_held, book_tests, read_tests, write_tests}
 use Rattle.book.specs.Meaning.{Before, Rise, RiseIs, Headed, WellFormed, WellFormedIs, ReadRefusal, ReaderGiven, WriterGiven}
 use Rattle.book.specs.Meaning.ReadRefusal.{malformed, unsorted, short, none}
@@ -119,15 +118,3 @@ reader_given b heads numbers = given b heads numbers _ _ _ refl refl refl
 pub writer_given : WriterGiven
 unfolding write_tests
 writer_given heads numbers count book = lowest_of_lem 0 _ (omega arith, (omega arith, (omega arith, tt)))
-
--- ---- an answer
-
--- one that is a number was accepted, and is the value
-is_number : (n v k : ℕ) → N.Is n ≡ number_as k v → (k ≡ 0) × (n ≡ v)
-unfolding number_as
-is_number n v zero e = (refl, cc)
-is_number n v (suc k) e = let z : ◌≡◌ {A = ℕ} 0 1 = cc in absurd (omega arith)
-
-pub accepted_is : (tests : List Check) (n v : ℕ) → N.Is n ≡ number_for tests v → (lowest_of tests ≡ 0) × (n ≡ v)
-unfolding number_for
-accepted_is tests n v e = is_number n v (lowest_of tests) e

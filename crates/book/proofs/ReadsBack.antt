@@ -9,7 +9,6 @@ use lib.Dec.{leb, ltb}
 use lib.ListN.{length, get_or, take, drop, length-append}
 use lib.Seq.{length-take-le, take_all, take_at, get_or-take, get_or-drop}
 use Rattle.frame.specs.Refusals.{lowest_of}
-use Rattle.frame.specs.declared.Number.TheVariants as N
 use Rattle.base.specs.Bytes.{AllBelow, le_bytes}
 use Rattle.base.specs.Loops.{filled, joined}
 use Rattle.base.proofs.Bytes.{length_le_bytes, reads_written}
@@ -19,14 +18,15 @@ use Rattle.base.proofs.Joined.{length_joined, joined_part}
 use Rattle.base.proofs.Table.{table_is, filled_front}
 use Rattle.base.proofs.Tests.{fails, or_left, or_right}
 use borrow.Author.Tests.{leb-true, ltb-false, not-false}
-use Rattle.frame.proofs.Given.{number_accepted}
+use Rattle.std.specs.Prelude.{Ok}
+use Rattle.book.proofs.Tested.{none_holds, value_given, accepted_by}
 use Rattle.frame.proofs.Lowest.{none_tested}
 use Rattle.book.proofs.Written.{four_long, header_length, pattern_length, record_length_lem, book_length_lem}
 use Rattle.book.specs.Layout.{book_length, header, pattern_bytes, record_bytes, book_bytes, u32_at, u64_at, count_in, key_in, key_at, grade_in, grade_at, zero_in, head_entry, number_entry, record_at}
 use Rattle.book.specs.Promises.{read_tests, write_tests, grades_held, keys_rise, Reading}
 use Rattle.book.specs.Meaning.{Before, Rise, Headed, WellFormed, ReadRefusal, ReadsBack}
 use Rattle.book.specs.Meaning.ReadRefusal.{malformed, unsorted, short, none}
-use Rattle.book.proofs.Meaning.{rise_is, reader_given, accepted_is}
+use Rattle.book.proofs.Meaning.{rise_is, reader_given}
 use Rattle.book.specs.declared.FitRecord.{FitRecord}
 
 -- four u32, and what follows
@@ -304,13 +304,14 @@ module _ (heads numbers : List ℕ) (n : ℕ) (area : List ℕ) (u32 : AllBelow 
 
 pub reads_back : ReadsBack
 reads_back heads numbers n area area' m x y x' y' a u32 u64 W R h k =
-    let e = accepted_is _ m (book_length n) W.given in
-    let K = accepted_write heads numbers n area e.0 in
+    let none = none_holds (write_tests heads numbers n area) (book_length n) (sym W.given) in
+    let size : m ≡ book_length n = value_given (write_tests heads numbers n area) (book_length n) (sym W.given) in
+    let K = accepted_write heads numbers n area none in
     let b = book_bytes (record_at heads numbers) n in
-    let cut : take m area' ≡ b = ap (take m) (W.accepted e.0) ∙ take_at b (drop (book_length n) area) m (book_length_lem (record_at heads numbers) n ∙ sym e.1) in
+    let cut : take m area' ≡ b = ap (take m) (W.accepted none) ∙ take_at b (drop (book_length n) area) m (book_length_lem (record_at heads numbers) n ∙ sym size) in
     let S : Reading b x y x' y' a = subst (λ l. Reading l x y x' y' a) cut R in
     let z = reads_accepted heads numbers n area u32 u64 K x y h k in (
-      S.given ∙ sym (number_accepted (read_tests b x y) (count_in b) z) ∙ ap N.Is (count_is heads numbers n area u32 u64 K),
+      S.given ∙ accepted_by (read_tests b x y) (count_in b) z ∙ ap Ok (count_is heads numbers n area u32 u64 K),
       S.heads_are z ∙ heads_back heads numbers n area u32 u64 K x h,
       S.numbers_are z ∙ numbers_back heads numbers n area u32 u64 K y k,
     )

@@ -1,4 +1,4 @@
--- The number of a book's refusal, test by test, from the lengths as the code divides them. Assumes nothing.
+-- What a call is refused for, test by test, from the lengths as the code divides them. Assumes nothing.
 use borrow.Author.Tests.{lt-ltb, le-ltb, ltb-false, eqb-true, not-false}
 use native.Mathlib.Omega.{arith}
 use mathlib.Core.Path.{◌≡◌, sym, ap, ◌∙◌}
@@ -7,12 +7,16 @@ use mathlib.Core.List.{List, [], ◌∷◌}
 use Prim.Native.Nat.{ℕ, ◌+◌, ◌-◌, ◌*◌, ◌/◌, ◌≤◌, ◌<◌}
 use lib.Dec.{ltb, eqb}
 use lib.ListN.{length}
+use Rattle.std.specs.Prelude.{Result, Ok, Err}
 use Rattle.base.proofs.Tests.{or_first, or_second, or_neither, or_left, or_right}
-use Rattle.frame.specs.Refusals.{check, lowest_of}
-use Rattle.frame.proofs.Lowest.{Rising, lowest_first, lowest_next, lowest_none, lowest_before, lowest_past}
+use Rattle.frame.specs.Refusals.{check, answer_for}
+use Rattle.frame.specs.declared.refusals.Refusal.{Refusal}
+use Rattle.frame.specs.declared.refusals.Refusal.TheVariants.{AreaShort, Malformed, KeysFall}
+use Rattle.frame.proofs.Given.{answer_first, answer_next, answer_none}
 use Rattle.book.specs.Layout.{book_length, u32_at, count_in, key_in, key_at}
 use Rattle.book.specs.Meaning.{Headed}
 use Rattle.book.specs.Promises.{keys_rise, header_wrong, records_held, grades_held, book_tests, read_tests, write_tests}
+use Rattle.book.proofs.Tested.{accepted_before}
 
 -- ---- the header
 
@@ -54,9 +58,9 @@ module _ (b : List ℕ) where
   abbrev pub falls : Bool
   falls = not (keys_rise (key_in b) (count_in b))
 
-  pub header_gives : header_wrong b ≡ true → 14 ≡ lowest_of (book_tests b)
+  pub header_gives : header_wrong b ≡ true → Err Malformed ≡ answer_for (book_tests b) (count_in b)
   unfolding book_tests
-  header_gives e = sym (lowest_first 14 bad (check 15 falls ∷ []) (or_first (header_wrong b) (not (records_held b (count_in b))) e))
+  header_gives e = answer_first (count_in b) Malformed bad (check KeysFall falls ∷ []) (or_first (header_wrong b) (not (records_held b (count_in b))) e)
 
   module _ (h : header_wrong b ≡ false) where
     pub whole : length b ≡ book_length (count_in b)
@@ -65,26 +69,22 @@ module _ (b : List ℕ) where
     pub count_is : (length b - 16) / 120 ≡ count_in b
     count_is = omega (arith, whole)
 
-    pub records_give : records_held b (count_in b) ≡ false → 14 ≡ lowest_of (book_tests b)
+    pub records_give : records_held b (count_in b) ≡ false → Err Malformed ≡ answer_for (book_tests b) (count_in b)
     unfolding book_tests
-    records_give e = sym (lowest_first 14 bad (check 15 falls ∷ []) (or_second (header_wrong b) (not (records_held b (count_in b))) (ap not e)))
+    records_give e = answer_first (count_in b) Malformed bad (check KeysFall falls ∷ []) (or_second (header_wrong b) (not (records_held b (count_in b))) (ap not e))
 
     module _ (r : records_held b (count_in b) ≡ true) where
-      formed : lowest_of (book_tests b) ≡ lowest_of (check 15 falls ∷ [])
+      formed : {x : Result ℕ Refusal} → x ≡ answer_for (check KeysFall falls ∷ []) (count_in b) → x ≡ answer_for (book_tests b) (count_in b)
       unfolding book_tests
-      formed = lowest_next 14 bad (check 15 falls ∷ []) (or_neither (header_wrong b) (not (records_held b (count_in b))) h (ap not r))
+      formed e = answer_next (count_in b) Malformed bad (check KeysFall falls ∷ []) (or_neither (header_wrong b) (not (records_held b (count_in b))) h (ap not r)) e
 
-      pub keys_give : keys_rise (key_in b) (count_in b) ≡ false → 15 ≡ lowest_of (book_tests b)
-      keys_give e = sym (formed ∙ lowest_first 15 falls [] (ap not e))
+      pub keys_give : keys_rise (key_in b) (count_in b) ≡ false → Err KeysFall ≡ answer_for (book_tests b) (count_in b)
+      keys_give e = formed (answer_first (count_in b) KeysFall falls [] (ap not e))
 
-      pub none_gives : keys_rise (key_in b) (count_in b) ≡ true → 0 ≡ lowest_of (book_tests b)
-      none_gives e = sym (formed ∙ lowest_next 15 falls [] (ap not e) ∙ lowest_none)
+      pub none_gives : keys_rise (key_in b) (count_in b) ≡ true → Ok (count_in b) ≡ answer_for (book_tests b) (count_in b)
+      none_gives e = formed (answer_next (count_in b) KeysFall falls [] (ap not e) (answer_none (count_in b)))
 
 -- ---- a call that reads
-
-pub book_rising : (b : List ℕ) → Rising 0 (book_tests b)
-unfolding book_tests
-book_rising b = (omega arith, (omega arith, tt))
 
 module _ (b heads numbers : List ℕ) where
   abbrev heads_short : Bool
@@ -93,25 +93,21 @@ module _ (b heads numbers : List ℕ) where
   abbrev numbers_short : Bool
   numbers_short = ltb (length numbers) (13 * count_in b)
 
-  pub read_book_gives : (n : ℕ) → n ≡ lowest_of (book_tests b) → (n ≡ 0 → ⊥) → n ≡ lowest_of (read_tests b heads numbers)
-  unfolding read_tests
-  read_book_gives n e h = lowest_before _ (book_tests b) n e h
-
-  module _ (e : lowest_of (book_tests b) ≡ 0) where
-    past : lowest_of (read_tests b heads numbers) ≡ lowest_of (check 3 (heads_short || numbers_short) ∷ [])
+  module _ (n : ℕ) (e : answer_for (book_tests b) (count_in b) ≡ Ok n) where
+    past : {x : Result ℕ Refusal} → x ≡ answer_for (check AreaShort (heads_short || numbers_short) ∷ []) (count_in b) → x ≡ answer_for (read_tests b heads numbers) (count_in b)
     unfolding read_tests
-    past = lowest_past _ 0 (book_tests b) (book_rising b) e
+    past h = h ∙ sym (accepted_before (book_tests b) (check AreaShort (heads_short || numbers_short) ∷ []) (count_in b) (count_in b) e)
 
-    pub read_heads_give : length heads / 3 < count_in b → 3 ≡ lowest_of (read_tests b heads numbers)
-    read_heads_give h = sym (past ∙ lowest_first 3 (heads_short || numbers_short) [] (or_first heads_short numbers_short (lt-ltb (length heads) (3 * count_in b) (omega arith))))
+    pub read_heads_give : length heads / 3 < count_in b → Err AreaShort ≡ answer_for (read_tests b heads numbers) (count_in b)
+    read_heads_give h = past (answer_first (count_in b) AreaShort (heads_short || numbers_short) [] (or_first heads_short numbers_short (lt-ltb (length heads) (3 * count_in b) (omega arith))))
 
-    pub read_numbers_give : length numbers / 13 < count_in b → 3 ≡ lowest_of (read_tests b heads numbers)
-    read_numbers_give h = sym (past ∙ lowest_first 3 (heads_short || numbers_short) [] (or_second heads_short numbers_short (lt-ltb (length numbers) (13 * count_in b) (omega arith))))
+    pub read_numbers_give : length numbers / 13 < count_in b → Err AreaShort ≡ answer_for (read_tests b heads numbers) (count_in b)
+    read_numbers_give h = past (answer_first (count_in b) AreaShort (heads_short || numbers_short) [] (or_second heads_short numbers_short (lt-ltb (length numbers) (13 * count_in b) (omega arith))))
 
-    pub read_none_gives : count_in b ≤ length heads / 3 → count_in b ≤ length numbers / 13 → 0 ≡ lowest_of (read_tests b heads numbers)
+    pub read_none_gives : count_in b ≤ length heads / 3 → count_in b ≤ length numbers / 13 → Ok (count_in b) ≡ answer_for (read_tests b heads numbers) (count_in b)
     read_none_gives h k =
-        sym (past ∙ lowest_next 3 (heads_short || numbers_short) [] (or_neither heads_short numbers_short
-        (le-ltb (length heads) (3 * count_in b) (omega arith)) (le-ltb (length numbers) (13 * count_in b) (omega arith))) ∙ lowest_none)
+        past (answer_next (count_in b) AreaShort (heads_short || numbers_short) [] (or_neither heads_short numbers_short
+        (le-ltb (length heads) (3 * count_in b) (omega arith)) (le-ltb (length numbers) (13 * count_in b) (omega arith))) (answer_none (count_in b)))
 
 -- ---- a call that writes
 
@@ -122,7 +118,7 @@ pub record Lent (heads numbers : List ℕ) (count : ℕ) (book : List ℕ) : Typ
   pub headed : 16 ≤ length book
   pub book_held : count ≤ (length book - 16) / 120
 
-module _ (heads numbers : List ℕ) (count : ℕ) (book : List ℕ) where
+module _ {A : Type 0} (v : A) (heads numbers : List ℕ) (count : ℕ) (book : List ℕ) where
   abbrev short_heads : Bool
   short_heads = ltb (length heads) (3 * count)
 
@@ -144,43 +140,45 @@ module _ (heads numbers : List ℕ) (count : ℕ) (book : List ℕ) where
   abbrev unsorted : Bool
   unsorted = not (keys_rise (key_at heads) count)
 
-  gives_3 : short ≡ true → 3 ≡ lowest_of (write_tests heads numbers count book)
+  short_gives : short ≡ true → Err AreaShort ≡ answer_for (write_tests heads numbers count book) v
   unfolding write_tests
-  gives_3 e = sym (lowest_first 3 short (check 14 wrong ∷ check 15 unsorted ∷ []) e)
+  short_gives e = answer_first v AreaShort short (check Malformed wrong ∷ check KeysFall unsorted ∷ []) e
 
-  pub heads_give : length heads / 3 < count → 3 ≡ lowest_of (write_tests heads numbers count book)
-  heads_give h = gives_3 (or_first (short_heads || short_numbers) short_book (or_first short_heads short_numbers (lt-ltb (length heads) (3 * count) (omega arith))))
+  pub heads_give : length heads / 3 < count → Err AreaShort ≡ answer_for (write_tests heads numbers count book) v
+  heads_give h = short_gives (or_first (short_heads || short_numbers) short_book (or_first short_heads short_numbers (lt-ltb (length heads) (3 * count) (omega arith))))
 
-  pub numbers_give : length numbers / 13 < count → 3 ≡ lowest_of (write_tests heads numbers count book)
-  numbers_give h = gives_3 (or_first (short_heads || short_numbers) short_book (or_second short_heads short_numbers (lt-ltb (length numbers) (13 * count) (omega arith))))
+  pub numbers_give : length numbers / 13 < count → Err AreaShort ≡ answer_for (write_tests heads numbers count book) v
+  numbers_give h = short_gives (or_first (short_heads || short_numbers) short_book (or_second short_heads short_numbers (lt-ltb (length numbers) (13 * count) (omega arith))))
 
   -- shorter than the header, or than header and records
-  pub book_gives : length book < book_length count → 3 ≡ lowest_of (write_tests heads numbers count book)
-  book_gives h = gives_3 (or_second (short_heads || short_numbers) short_book (lt-ltb (length book) (book_length count) h))
+  pub book_gives : length book < book_length count → Err AreaShort ≡ answer_for (write_tests heads numbers count book) v
+  book_gives h = short_gives (or_second (short_heads || short_numbers) short_book (lt-ltb (length book) (book_length count) h))
 
   module _ (l : Lent heads numbers count book) where
-    held : lowest_of (write_tests heads numbers count book) ≡ lowest_of (check 14 wrong ∷ check 15 unsorted ∷ [])
+    held : {x : Result A Refusal} → x ≡ answer_for (check Malformed wrong ∷ check KeysFall unsorted ∷ []) v → x ≡ answer_for (write_tests heads numbers count book) v
     unfolding write_tests
-    held =
-        lowest_next 3 short (check 14 wrong ∷ check 15 unsorted ∷ [])
+    held e =
+        answer_next v AreaShort short (check Malformed wrong ∷ check KeysFall unsorted ∷ [])
         (or_neither (short_heads || short_numbers) short_book
         (or_neither short_heads short_numbers
         (le-ltb (length heads) (3 * count) (omega (arith, l.heads_held)))
         (le-ltb (length numbers) (13 * count) (omega (arith, l.numbers_held))))
-        (le-ltb (length book) (book_length count) (omega (arith, l.headed, l.book_held))))
+        (le-ltb (length book) (book_length count) (omega (arith, l.headed, l.book_held)))) e
 
-    pub total_gives : 35791393 < count → 14 ≡ lowest_of (write_tests heads numbers count book)
-    total_gives m = sym (held ∙ lowest_first 14 wrong (check 15 unsorted ∷ []) (or_first long (not (grades_held heads count)) (lt-ltb 4294967295 (book_length count) (omega arith))))
+    pub total_gives : 35791393 < count → Err Malformed ≡ answer_for (write_tests heads numbers count book) v
+    total_gives m = held (answer_first v Malformed wrong (check KeysFall unsorted ∷ []) (or_first long (not (grades_held heads count)) (lt-ltb 4294967295 (book_length count) (omega arith))))
 
-    pub grades_give : grades_held heads count ≡ false → 14 ≡ lowest_of (write_tests heads numbers count book)
-    grades_give e = sym (held ∙ lowest_first 14 wrong (check 15 unsorted ∷ []) (or_second long (not (grades_held heads count)) (ap not e)))
+    pub grades_give : grades_held heads count ≡ false → Err Malformed ≡ answer_for (write_tests heads numbers count book) v
+    grades_give e = held (answer_first v Malformed wrong (check KeysFall unsorted ∷ []) (or_second long (not (grades_held heads count)) (ap not e)))
 
     module _ (m : count ≤ 35791393) (g : grades_held heads count ≡ true) where
-      graded : lowest_of (write_tests heads numbers count book) ≡ lowest_of (check 15 unsorted ∷ [])
-      graded = held ∙ lowest_next 14 wrong (check 15 unsorted ∷ []) (or_neither long (not (grades_held heads count)) (le-ltb 4294967295 (book_length count) (omega arith)) (ap not g))
+      graded : {x : Result A Refusal} → x ≡ answer_for (check KeysFall unsorted ∷ []) v → x ≡ answer_for (write_tests heads numbers count book) v
+      graded e =
+          held (answer_next v Malformed wrong (check KeysFall unsorted ∷ [])
+          (or_neither long (not (grades_held heads count)) (le-ltb 4294967295 (book_length count) (omega arith)) (ap not g)) e)
 
-      pub unsorted_gives : keys_rise (key_at heads) count ≡ false → 15 ≡ lowest_of (write_tests heads numbers count book)
-      unsorted_gives e = sym (graded ∙ lowest_first 15 unsorted [] (ap not e))
+      pub unsorted_gives : keys_rise (key_at heads) count ≡ false → Err KeysFall ≡ answer_for (write_tests heads numbers count book) v
+      unsorted_gives e = graded (answer_first v KeysFall unsorted [] (ap not e))
 
-      pub sorted_gives : keys_rise (key_at heads) count ≡ true → 0 ≡ lowest_of (write_tests heads numbers count book)
-      sorted_gives e = sym (graded ∙ lowest_next 15 unsorted [] (ap not e) ∙ lowest_none)
+      pub sorted_gives : keys_rise (key_at heads) count ≡ true → Ok v ≡ answer_for (write_tests heads numbers count book) v
+      sorted_gives e = graded (answer_next v KeysFall unsorted [] (ap not e) (answer_none v))

@@ -7,7 +7,6 @@ use native.Mathlib.Omega.{arith}
 use lib.ListN.{length, get_or, take, drop}
 use lib.Seq.{take_all, get_or-take, get_or-drop}
 use Rattle.frame.specs.Refusals.{lowest_of}
-use Rattle.frame.specs.declared.Number.TheVariants as N
 use Rattle.base.specs.Bytes.{AllBelow, le_bytes}
 use Rattle.base.specs.Loops.{filled, joined}
 use Rattle.base.proofs.Bytes.{writes_read, little_endian_below}
@@ -15,14 +14,15 @@ use Rattle.base.proofs.Every.{one_every}
 use Rattle.base.proofs.Joined.{joined_spans}
 use Rattle.base.proofs.Spans.{span, span_join}
 use borrow.Author.Tests.{le-leb}
-use Rattle.frame.proofs.Given.{number_accepted}
+use Rattle.std.specs.Prelude.{Ok}
+use Rattle.book.proofs.Tested.{none_holds, value_given, accepted_by}
 use Rattle.book.proofs.Refusing.{Lent, sorted_gives}
 use Rattle.base.proofs.Plane.{filled_at, length_filled}
 use Rattle.book.specs.Layout.{book_length, header, pattern_bytes, record_bytes, book_bytes, u32_at, u64_at, count_in, key_in, key_at, grade_in, grade_at, zero_in, head_entry, number_entry, record_at}
 use Rattle.book.specs.Promises.{read_tests, write_tests, grades_held, keys_rise}
 use Rattle.book.specs.Meaning.{Before, Rise, Headed, WellFormed, ReadRefusal, WritesBack}
 use Rattle.book.specs.Meaning.ReadRefusal.{malformed, unsorted, short, none}
-use Rattle.book.proofs.Meaning.{rise_is, reader_given, accepted_is}
+use Rattle.book.proofs.Meaning.{rise_is, reader_given}
 
 module _ (b : List ℕ) (bytes : AllBelow 256 b) where
   u32_back : (p : ℕ) → p + 4 ≤ length b → le_bytes 4 (u32_at b p) ≡ span b p 4
@@ -174,20 +174,21 @@ module _ (b heads numbers heads' numbers' : List ℕ) (bytes : AllBelow 256 b) (
         headed = omega (arith, A.formed.header.headed);
         book_held = omega (arith, whole);
       } in
-      sym (sorted_gives heads' numbers' n area l (omega (arith, A.formed.header.total)) graded risen)
+      none_holds {A = ℕ} (write_tests heads' numbers' n area) 0 (sym (sorted_gives 0 heads' numbers' n area l (omega (arith, A.formed.header.total)) graded risen))
 
 pub writes_back : WritesBack
 writes_back b heads numbers heads' numbers' n area area' a bytes R W r =
-    let x = accepted_is _ n (count_in b) R.given in
-    let A = accepted_read b heads numbers x.0 in
-    let h = R.heads_are x.0 in
-    let k = R.numbers_are x.0 in
-    let long : length b ≡ book_length n = A.formed.header.all ∙ A.formed.header.total ∙ ap book_length (sym x.1) in
+    let none = none_holds (read_tests b heads numbers) (count_in b) (sym R.given) in
+    let count : n ≡ count_in b = value_given (read_tests b heads numbers) (count_in b) (sym R.given) in
+    let A = accepted_read b heads numbers none in
+    let h = R.heads_are none in
+    let k = R.numbers_are none in
+    let long : length b ≡ book_length n = A.formed.header.all ∙ A.formed.header.total ∙ ap book_length (sym count) in
     let z : lowest_of (write_tests heads' numbers' n area) ≡ 0 =
-    ap (λ m. lowest_of (write_tests heads' numbers' m area)) x.1 ∙ writes_accepted b heads numbers heads' numbers' bytes A h k area r in (
-      W.given ∙ sym (number_accepted (write_tests heads' numbers' n area) (book_length n) z) ∙ ap N.Is (sym long),
+    ap (λ m. lowest_of (write_tests heads' numbers' m area)) count ∙ writes_accepted b heads numbers heads' numbers' bytes A h k area r in (
+      W.given ∙ accepted_by (write_tests heads' numbers' n area) (book_length n) z ∙ ap Ok (sym long),
       W.accepted z
-          ∙ ap (λ m. book_bytes (record_at heads' numbers') m ++ drop (book_length n) area) x.1
+          ∙ ap (λ m. book_bytes (record_at heads' numbers') m ++ drop (book_length n) area) count
           ∙ ap (λ l. l ++ drop (book_length n) area) (book_back b heads numbers heads' numbers' bytes A h k)
           ∙ ap (λ m. b ++ drop m area) (sym long),
     )

@@ -1,28 +1,28 @@
 -- Numbers written into bytes, one part after another. Assumes nothing.
 use mathlib.Core.Path.{◌≡◌, sym, ap, ◌∙◌}
 use mathlib.Core.List.{List, [], ◌++◌, append-nil}
-use Prim.Native.Nat.{ℕ, ◌+◌, ◌-◌, ◌*◌, ◌≤◌}
+use Prim.Native.Nat.{ℕ, ◌+◌, ◌-◌, ◌*◌, ◌≤◌, ◌<◌, suc}
+use native.Mathlib.Nat.{mul-suc, mul-le-mul_left}
 use native.Mathlib.Omega.{arith}
-use lib.ListN.{length, get_or, take, drop, length-append}
-use lib.Seq.{length-take-le, drop_at}
-use borrow.Rule.Slice.PartMut.{mid_of, put_mid, mid_len}
+use lib.ListN.{length, get_or, drop, length-append}
+use lib.Seq.{drop_at}
+use borrow.Rule.Slice.PartMut.{put_mid}
 use Rattle.base.specs.Bytes.{le_bytes}
 use Rattle.base.specs.Loops.{joined}
 use Rattle.base.proofs.Bytes.{length_le_bytes}
 use Rattle.base.proofs.Joined.{length_joined, over_joined, over_joined_end}
-use Rattle.base.proofs.Over.{over, Part, part_first, part_next, part_long}
-use Rattle.book.specs.Layout.{header, pattern_bytes, record_bytes, book_bytes, book_length}
+use Rattle.base.proofs.Over.{over}
+use Rattle.book.specs.Layout.{header, number_bytes, pattern_bytes, record_bytes, book_bytes, book_length}
 use Rattle.book.specs.declared.FitRecord.{FitRecord}
 
--- ---- a number in the bytes up to n, and in those from n up to e
-pub number_first : (l x : List ℕ) (n v : ℕ) → n ≤ length l → x ≡ le_bytes (length (take n l)) v → Part (le_bytes n v) l (x ++ drop n l) n
-number_first l x n v r e = part_first (le_bytes n v) l x n (e ∙ ap (λ i. le_bytes i v) (length-take-le n l r)) (length_le_bytes n v)
+-- ---- numbers, each in `width` bytes
 
-pub number_next : (t l b x : List ℕ) (n e v : ℕ) → Part t l b n → n ≤ e → e ≤ length l → x ≡ le_bytes (length (mid_of n (e - n) b)) v
-    → Part (t ++ le_bytes (e - n) v) l (put_mid n (e - n) b x) e
-number_next t l b x n e v p h r f =
-    let long : length b ≡ length l = part_long t l b n p (omega arith) in
-    part_next t l b (le_bytes (e - n) v) x n e p h (f ∙ ap (λ i. le_bytes i v) (mid_len n e b (omega arith))) (length_le_bytes (e - n) v)
+pub number_length : (width : ℕ) (l : List ℕ) (i : ℕ) → length (number_bytes width l i) ≡ width
+number_length width l i = length_le_bytes width (get_or l i 0)
+
+-- number i has its room in them
+pub number_room : (width i n : ℕ) → i < n → width * i + width ≤ width * n
+number_room width i n h = let k : suc i ≤ n = omega arith in omega (arith, mul-suc width i, mul-le-mul_left width k)
 
 -- ---- lengths
 pub four_long : (a b c d : ℕ) → length (le_bytes 4 a ++ le_bytes 4 b ++ le_bytes 4 c ++ le_bytes 4 d) ≡ 16

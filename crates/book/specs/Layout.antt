@@ -8,6 +8,7 @@ use Rattle.fit.specs.Numbers.{grade_number, fit_numbers, fit_of}
 use Rattle.fit.specs.declared.GeometryFit.{GeometryFit}
 use Rattle.fit.specs.declared.Grade.{Grade}
 use Rattle.book.specs.declared.FitRecord.{FitRecord}
+use Rattle.book.specs.declared.keys.Key.{Key}
 
 -- ---- written
 
@@ -19,9 +20,13 @@ book_length n = 16 + 120 * n
 unfoldable pub header : ℕ → List ℕ
 header n = le_bytes 4 n ++ le_bytes 4 16 ++ le_bytes 4 120 ++ le_bytes 4 (book_length n)
 
+-- [18.2] number i of a list, in `width` bytes, the lowest first
+abbrev pub number_bytes : ℕ → List ℕ → ℕ → List ℕ
+number_bytes width numbers i = le_bytes width (get_or numbers i 0)
+
 -- [18.4] "a record is panel u32, camera u32, grade u32, a zero u32, then thirteen f64", these by their bits
 unfoldable pub pattern_bytes : List ℕ → ℕ → List ℕ
-pattern_bytes numbers i = le_bytes 8 (get_or numbers i 0)
+pattern_bytes = number_bytes 8
 
 unfoldable pub record_bytes : FitRecord → List ℕ
 record_bytes r =
@@ -47,11 +52,6 @@ u64_at b p = little_endian 8 b p
 -- [18.3] the record count of a header
 unfoldable pub count_in : List ℕ → ℕ
 count_in b = u32_at b 0
-
--- [18.5] panel and camera
-pub record Key : Type 0 where
-  pub panel : ℕ
-  pub camera : ℕ
 
 -- [18.4] key, grade and zero field of record j
 unfoldable pub key_in : List ℕ → ℕ → Key

@@ -1,17 +1,17 @@
 -- What the definitions come to: theorems that a reader can cite. proofs/Meaning, WritesBack, ReadsBack and FitKept
 -- show them. Assumes nothing.
-use Rattle.std.specs.Prelude.{ℕ, ◌+◌, ◌*◌, ◌^◌, ◌≤◌, ◌<◌, ◌≡◌, true, false, not, ◌||◌, ◌⊎◌, ◌↔◌, List, ◌++◌, T, length, get_or, take, drop}
+use Rattle.std.specs.Prelude.{ℕ, ◌*◌, ◌^◌, ◌≤◌, ◌<◌, ◌≡◌, true, false, not, ◌||◌, ◌⊎◌, ◌↔◌, List, ◌++◌, T, length, get_or, take, drop, Result, Ok}
 use Rattle.std.specs.Float.{nan, binary64}
 use Rattle.std.specs.Float.Ieee.{fits}
 use Rattle.base.specs.Bytes.{AllBelow}
 use Rattle.frame.specs.Refusals.{Lowest, Tested, lowest_of}
-use Rattle.frame.specs.declared.Number.{Number}
-use Rattle.frame.specs.declared.Number.TheVariants as N
+use Rattle.frame.specs.declared.refusals.Refusal.{Refusal}
 use Rattle.fit.specs.Numbers.{fit_numbers}
 use Rattle.fit.specs.declared.GeometryFit.{GeometryFit}
 use Rattle.fit.specs.declared.Grade.{Grade}
-use Rattle.book.specs.Layout.{book_length, u32_at, count_in, Key, key_in, grade_in, zero_in}
+use Rattle.book.specs.Layout.{book_length, u32_at, count_in, key_in, grade_in, zero_in}
 use Rattle.book.specs.Layout.{record_of, fit_in}
+use Rattle.book.specs.declared.keys.Key.{Key}
 use Rattle.book.specs.Promises.{keys_rise, header_wrong, records_held, read_tests, write_tests}
 use Rattle.book.specs.Promises.{Reading, Writing}
 
@@ -73,24 +73,24 @@ WriterGiven =
 -- accepts, and the book stands there
 abbrev pub WritesBack : Type 0
 WritesBack =
-    (b heads numbers heads' numbers' : List ℕ) (n : ℕ) (area area' : List ℕ) (a : Number)
+    (b heads numbers heads' numbers' : List ℕ) (n : ℕ) (area area' : List ℕ) (a : Result ℕ Refusal)
     → AllBelow 256 b
-    → Reading b heads numbers heads' numbers' (N.Is n)
+    → Reading b heads numbers heads' numbers' (Ok n)
     → Writing heads' numbers' n area area' a
     → length b ≤ length area
-    → (a ≡ N.Is (length b)) × (area' ≡ b ++ drop (length b) area)
+    → (a ≡ Ok (length b)) × (area' ≡ b ++ drop (length b) area)
 
 -- .. and a book that was written reads back: the reader accepts it, and the records stand in lists that can hold them
 abbrev pub ReadsBack : Type 0
 ReadsBack =
-    (heads numbers : List ℕ) (n : ℕ) (area area' : List ℕ) (m : ℕ) (x y x' y' : List ℕ) (a : Number)
+    (heads numbers : List ℕ) (n : ℕ) (area area' : List ℕ) (m : ℕ) (x y x' y' : List ℕ) (a : Result ℕ Refusal)
     → AllBelow (2 ^ 32) heads
     → AllBelow (2 ^ 64) numbers
-    → Writing heads numbers n area area' (N.Is m)
+    → Writing heads numbers n area area' (Ok m)
     → Reading (take m area') x y x' y' a
     → 3 * n ≤ length x
     → 13 * n ≤ length y
-    → (a ≡ N.Is n) × (x' ≡ take (3 * n) heads ++ drop (3 * n) x) × (y' ≡ take (13 * n) numbers ++ drop (13 * n) y)
+    → (a ≡ Ok n) × (x' ≡ take (3 * n) heads ++ drop (3 * n) x) × (y' ≡ take (13 * n) numbers ++ drop (13 * n) y)
 
 -- [18.1] "so a fit can be kept": the fit of the record that keeps it, for numbers that are f64
 abbrev pub FitKept : Type 0

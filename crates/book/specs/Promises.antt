@@ -1,10 +1,11 @@
 -- What `read_book` and `write_book` do (requirements, 18). Assumes nothing.
-use Rattle.std.specs.Prelude.{ℕ, ◌+◌, ◌-◌, ◌*◌, ◌≤◌, ◌≡◌, Bool, not, ◌&&◌, ◌||◌, List, [], ◌∷◌, ◌++◌, leb, ltb, eqb, length, drop}
+use Rattle.std.specs.Prelude.{ℕ, ◌+◌, ◌-◌, ◌*◌, ◌≤◌, ◌≡◌, Bool, not, ◌&&◌, ◌||◌, List, [], ◌∷◌, ◌++◌, leb, ltb, eqb, length, drop, Result}
 use Rattle.base.specs.Loops.{every, filled}
-use Rattle.frame.specs.Refusals.{Check, check, lowest_of}
-use Rattle.frame.specs.Answers.{number_for}
-use Rattle.frame.specs.declared.Number.{Number}
-use Rattle.book.specs.Layout.{book_length, book_bytes, u32_at, count_in, Key, key_in, grade_in, zero_in}
+use Rattle.frame.specs.Refusals.{Check, check, lowest_of, answer_for}
+use Rattle.frame.specs.declared.refusals.Refusal.{Refusal}
+use Rattle.frame.specs.declared.refusals.Refusal.TheVariants.{AreaShort, Malformed, KeysFall}
+use Rattle.book.specs.declared.keys.Key.{Key}
+use Rattle.book.specs.Layout.{book_length, book_bytes, u32_at, count_in, key_in, grade_in, zero_in}
 use Rattle.book.specs.Layout.{head_entry, number_entry, key_at, grade_at, record_at}
 
 -- ---- tests
@@ -48,8 +49,8 @@ grades_held heads n = every n (λ j. grade_held (grade_at heads j))
 -- a book's own: [18.7] 14 for header, length, grade or zero field, [18.8] "and next with 15 when keys do not rise"
 unfoldable pub book_tests : List ℕ → List Check
 book_tests b =
-    check 14 (header_wrong b || not (records_held b (count_in b)))
-    ∷ check 15 (not (keys_rise (key_in b) (count_in b)))
+    check Malformed (header_wrong b || not (records_held b (count_in b)))
+    ∷ check KeysFall (not (keys_rise (key_in b) (count_in b)))
     ∷ []
 
 -- [18.9] "a target that is too short gives 3, .. a reader's after 15". The numbers do not rise: the first test that
@@ -57,23 +58,23 @@ book_tests b =
 unfoldable pub read_tests : List ℕ → List ℕ → List ℕ → List Check
 read_tests b heads numbers =
     book_tests b
-    ++ (check 3 (ltb (length heads) (3 * count_in b) || ltb (length numbers) (13 * count_in b)) ∷ [])
+    ++ (check AreaShort (ltb (length heads) (3 * count_in b) || ltb (length numbers) (13 * count_in b)) ∷ [])
 
 -- [18.9] "a writer's first": the target, and a list that is shorter than its count; [18.7] 14: "a total to be written
 -- passes 4,294,967,295", or a grade is wrong; [18.8] 15
 unfoldable pub write_tests : List ℕ → List ℕ → ℕ → List ℕ → List Check
 write_tests heads numbers count book =
-    check 3
+    check AreaShort
     (ltb (length heads) (3 * count) || ltb (length numbers) (13 * count) || ltb (length book) (book_length count))
-    ∷ check 14 (ltb 4294967295 (book_length count) || not (grades_held heads count))
-    ∷ check 15 (not (keys_rise (key_at heads) count))
+    ∷ check Malformed (ltb 4294967295 (book_length count) || not (grades_held heads count))
+    ∷ check KeysFall (not (keys_rise (key_at heads) count))
     ∷ []
 
 -- ---- the functions
 
 -- [18.6] `read_book`: the lists become heads' and numbers', and the answer is a
-pub record Reading (b heads numbers heads' numbers' : List ℕ) (a : Number) : Type 0 where
-  pub given : a ≡ number_for (read_tests b heads numbers) (count_in b)
+pub record Reading (b heads numbers heads' numbers' : List ℕ) (a : Result ℕ Refusal) : Type 0 where
+  pub given : a ≡ answer_for (read_tests b heads numbers) (count_in b)
   -- [17.6] a longer list keeps its rest
   pub heads_are : lowest_of (read_tests b heads numbers) ≡ 0 → heads' ≡ filled (head_entry b) (3 * count_in b) heads
   pub numbers_are : lowest_of (read_tests b heads numbers) ≡ 0
@@ -82,8 +83,8 @@ pub record Reading (b heads numbers heads' numbers' : List ℕ) (a : Number) : T
   pub refused : 1 ≤ lowest_of (read_tests b heads numbers) → (heads' ≡ heads) × (numbers' ≡ numbers)
 
 -- [18.6] `write_book`: the book's area becomes book'
-pub record Writing (heads numbers : List ℕ) (count : ℕ) (book book' : List ℕ) (a : Number) : Type 0 where
-  pub given : a ≡ number_for (write_tests heads numbers count book) (book_length count)
+pub record Writing (heads numbers : List ℕ) (count : ℕ) (book book' : List ℕ) (a : Result ℕ Refusal) : Type 0 where
+  pub given : a ≡ answer_for (write_tests heads numbers count book) (book_length count)
   -- [17.6] a longer area keeps its rest
   pub accepted : lowest_of (write_tests heads numbers count book) ≡ 0
       → book' ≡ book_bytes (record_at heads numbers) count ++ drop (book_length count) book

@@ -6,6 +6,7 @@
 
 mod constants;
 pub mod internal;
+mod keys;
 mod reader;
 mod records;
 mod tests;
@@ -16,9 +17,9 @@ ghost use Rattle.book.specs.Layout.{record_of, fit_in};
 ghost use Rattle.book.specs.Promises.{Reading, Writing};
 
 use fit::{GeometryFit, Grade};
-use frame::Number;
+use frame::Refusal;
 use reader::{read_heads, read_numbers};
-use tests::{read_refused, write_refused};
+use tests::{readable, writable};
 use writer::put_book;
 
 // Bytes of the header.
@@ -33,7 +34,8 @@ pub const HEAD_NUMBERS: usize = 3;
 pub const FIT_NUMBERS: usize = 13;
 
 // A record of a book. The grade is 0 where the fit was scored, 1 where a tap was outside the
-// picture, 2 where too few cells were sampled.
+// picture, 2 where too few cells were sampled: a number, since lists that are not yet tested may
+// hold any.
 #[derive(Clone, Copy)]
 pub struct FitRecord {
     pub panel: u32,
@@ -43,32 +45,30 @@ pub struct FitRecord {
 }
 
 // Reads a book into the two lists, and answers how many records it has. Refusals 14, 15, then 3.
-pub fn read_book(book: &[u8], heads: &mut [u32], numbers: &mut [u64]) -> Number
+pub fn read_book(book: &[u8], heads: &mut [u32], numbers: &mut [u64]) -> Result<usize, Refusal>
     ensures { Reading book.now heads.old numbers.old heads.new
         numbers.new result }
 {
-    let number = read_refused(book, heads, numbers);
-    if number != 0 {
-        return Number::Refused(number);
-    }
-    let count = (book.len() - HEADER_LENGTH) / RECORD_LENGTH;
+    let count = readable(book, heads, numbers)?;
     read_heads(book, count, heads);
     read_numbers(book, count, numbers);
-    Number::Is(count)
+    Ok(count)
 }
 
 // Writes the first `count` records of the two lists as a book, and answers its length in bytes.
 // Refusals 3, 14 and 15.
-pub fn write_book(heads: &[u32], numbers: &[u64], count: usize, book: &mut [u8]) -> Number
+pub fn write_book(
+    heads: &[u32],
+    numbers: &[u64],
+    count: usize,
+    book: &mut [u8],
+) -> Result<usize, Refusal>
     ensures { Writing heads.now numbers.now count book.old
         book.new result }
 {
-    let number = write_refused(heads, numbers, count, book);
-    if number != 0 {
-        return Number::Refused(number);
-    }
+    writable(heads, numbers, count, book)?;
     put_book(heads, numbers, count, book);
-    Number::Is(HEADER_LENGTH + RECORD_LENGTH * count)
+    Ok(HEADER_LENGTH + RECORD_LENGTH * count)
 }
 
 // The record that keeps a fit. A NaN of the fit, which has no pattern of its own, becomes
@@ -76,13 +76,11 @@ pub fn write_book(heads: &[u32], numbers: &[u64], count: usize, book: &mut [u8])
 pub fn record_of(panel: u32, camera: u32, grade: Grade, fit: GeometryFit) -> FitRecord
     ensures { result ≡ record_of panel camera grade fit }
 {
-    let floats = fit::internal::fit_numbers(fit);
-    let numbers = records::patterns(floats);
     FitRecord {
-        panel: panel,
-        camera: camera,
+        panel,
+        camera,
         grade: fit::internal::grade_number(grade) as u32,
-        numbers: numbers,
+        numbers: fit::internal::fit_numbers(fit).map(|x| float::to_bits(x)),
     }
 }
 
@@ -91,8 +89,6 @@ impl FitRecord {
     pub fn fit(self) -> GeometryFit
         ensures { result ≡ fit_in self }
     {
-        let patterns = self.numbers;
-        let numbers = records::floats(patterns);
-        fit::internal::fit_of(&numbers)
+        fit::internal::fit_of(&self.numbers.map(|p| float::from_bits(p)))
     }
 }

@@ -1,12 +1,23 @@
 // Into a book's bytes. Each function but the last fills the whole slice that it is lent.
-ghost use Rattle.std.specs.Prelude.{◌≡◌, ◌++◌, ◌≤◌, length, drop};
+ghost use Rattle.std.specs.Prelude.{◌≡◌, ◌++◌, ◌*◌, ◌≤◌, length, drop};
 ghost use Rattle.base.specs.Loops.{joined};
-ghost use Rattle.book.specs.Layout.{book_length, header, pattern_bytes, record_bytes, book_bytes, record_at};
+ghost use Rattle.book.specs.Layout.{book_length, header, number_bytes, record_bytes, book_bytes, record_at};
 ghost use Rattle.book.specs.Steps.{Writable};
 
 use super::records::record_at;
 use super::{FitRecord, HEADER_LENGTH, RECORD_LENGTH};
 use base::internal::put_little_endian;
+
+// Numbers one after another, each in `width` bytes.
+fn put_numbers(area: &mut [u8], width: usize, numbers: &[u64])
+    requires { length area.old ≡ width * length numbers.now }
+    ensures { area.new ≡ joined (number_bytes width numbers.now) (length numbers.now) }
+{
+    for i in 0..numbers.len() {
+        let at = width * i;
+        put_little_endian(&mut area[at..at + width], numbers[i]);
+    }
+}
 
 // The header of a book of `count` records.
 pub fn put_header(area: &mut [u8], count: usize)
@@ -14,23 +25,13 @@ pub fn put_header(area: &mut [u8], count: usize)
     ensures { area.new ≡ header count }
 {
     let total = HEADER_LENGTH + RECORD_LENGTH * count;
-    put_little_endian(&mut area[..4], count as u64);
-    put_little_endian(&mut area[4..8], 16);
-    put_little_endian(&mut area[8..12], 120);
-    put_little_endian(&mut area[12..16], total as u64);
-}
-
-// The patterns of a record.
-fn put_patterns(area: &mut [u8], numbers: [u64; 13])
-    requires { length area.old ≡ 104 }
-    ensures { area.new ≡ joined (pattern_bytes numbers) 13 }
-{
-    let mut i: usize = 0;
-    while i < 13 {
-        let at = 8 * i;
-        put_little_endian(&mut area[at..at + 8], numbers[i]);
-        i += 1;
-    }
+    let words = [
+        count as u64,
+        HEADER_LENGTH as u64,
+        RECORD_LENGTH as u64,
+        total as u64,
+    ];
+    put_numbers(area, 4, &words);
 }
 
 // A record.
@@ -38,12 +39,9 @@ fn put_record(area: &mut [u8], kept: FitRecord)
     requires { length area.old ≡ 120 }
     ensures { area.new ≡ record_bytes kept }
 {
-    put_little_endian(&mut area[..4], kept.panel as u64);
-    put_little_endian(&mut area[4..8], kept.camera as u64);
-    put_little_endian(&mut area[8..12], kept.grade as u64);
-    put_little_endian(&mut area[12..16], 0);
-    let numbers = kept.numbers;
-    put_patterns(&mut area[16..120], numbers);
+    let words = [kept.panel as u64, kept.camera as u64, kept.grade as u64, 0];
+    put_numbers(&mut area[..16], 4, &words);
+    put_numbers(&mut area[16..], 8, &kept.numbers);
 }
 
 // The book of the first `count` records of the lists, from the start of the area.
@@ -53,12 +51,9 @@ pub fn put_book(heads: &[u32], numbers: &[u64], count: usize, book: &mut [u8])
         drop (book_length count) book.old }
 {
     put_header(&mut book[..16], count);
-    let mut j: usize = 0;
-    while j < count {
+    for j in 0..count {
         let kept = record_at(heads, numbers, j);
         let at = HEADER_LENGTH + RECORD_LENGTH * j;
-        let end = at + RECORD_LENGTH;
-        put_record(&mut book[at..end], kept);
-        j += 1;
+        put_record(&mut book[at..at + RECORD_LENGTH], kept);
     }
 }

@@ -2,6 +2,7 @@
 use Prim.Native.Nat.{ℕ, ◌+◌, ◌*◌, ◌/◌, ◌^◌, ◌≤◌, ◌<◌}
 use mathlib.Core.Path.{◌≡◌, refl, sym, subst, ◌∙◌}
 use mathlib.Core.Bool.{Bool, true, false, ◌||◌}
+use mathlib.Core.List.{List}
 use native.Mathlib.Nat.{div-lt_iff_lt-mul, mul-one, lt_of_not-le}
 use native.Mathlib.Omega.{arith}
 use lib.Ieee.{Float, nan, inf, fin, up, down, lt, le, eq, to_unsigned}
@@ -13,6 +14,7 @@ use Rattle.base.proofs.Tests.{or_left, or_right, holds, refuted}
 use Rattle.float.specs.Floats.{f64, as_usize}
 use Rattle.float.proofs.Numbers.{f64_value}
 use Rattle.frame.specs.Image.{outside}
+use Rattle.candidates.specs.Bounds.{PlanesHeld}
 
 no_infinity : (x : Float) (n : ℕ) → HasValue x false n 1 → le x (inf false) ≡ true
 unfolding le lt eq
@@ -52,10 +54,10 @@ pub record Pixel (w h x' y' : ℕ) : Type 0 where
   pub number : y' * w + x' < 2 ^ 32
   pub within : y' * w + x' < w * h
 
-pub pixel : (w h : ℕ) (x y : Float) (out : Bool) (x' y' : ℕ) → 1 ≤ w → w ≤ 4096 → 1 ≤ h → h ≤ 4096 → out ≡ outside w h x y → out ≡ false
+pub pixel : {m : List ℕ} {luma : List Float} (w h : ℕ) (x y : Float) {out : Bool} {x' y' : ℕ} → PlanesHeld w h m luma → out ≡ outside w h x y → out ≡ false
     → x' ≡ as_usize x → y' ≡ as_usize y → Pixel w h x' y'
-pixel w h x y out x' y' w1 w2 h1 h2 e f ex ey =
-    let p = pixel_in w h x y w1 w2 h1 h2 (sym e ∙ f) in
+pixel w h x y {x' = x'} {y' = y'} planes e f ex ey =
+    let p = pixel_in w h x y planes.w_some planes.w_held planes.h_some planes.h_held (sym e ∙ f) in
     let q : y' * w + x' < w * h = subst (λ z. z * w + x' < w * h) (sym ey) (subst (λ z. as_usize y * w + z < w * h) (sym ex) p.2) in
-    let r : w * h ≤ 4096 * 4096 = product_le w h 4096 4096 w2 h2 in
+    let r : w * h ≤ 4096 * 4096 = product_le w h 4096 4096 planes.w_held planes.h_held in
     record { row = omega arith; number = omega arith; within = q }

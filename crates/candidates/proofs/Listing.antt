@@ -1,5 +1,5 @@
 -- The candidate list, one patch more at a time. Assumes nothing.
-use Prim.Native.Nat.{ℕ, ◌+◌, ◌*◌, ◌/◌, ◌≤◌, ◌<◌}
+use Prim.Native.Nat.{ℕ, ◌+◌, ◌*◌, ◌/◌, ◌^◌, ◌≤◌, ◌<◌}
 use mathlib.Core.Path.{◌≡◌, refl, sym, ap, subst, ◌∙◌}
 use mathlib.Core.Bool.{false}
 use mathlib.Core.Logic.{⊎_elim}
@@ -9,17 +9,15 @@ use lib.Dec.{T}
 use lib.ListN.{length, get_or, set, drop, length-set}
 use lib.Seq.{get_or-set_same, get_or-set_other, drop-set-lt}
 use lib.Ieee.{Float, nan}
-use Rattle.base.proofs.Tests.{either}
 use Rattle.base.proofs.Arith.{last_or}
 use Rattle.base.proofs.Parts.{drop_later}
-use Rattle.frame.specs.declared.Point.{Point}
 use Rattle.blobs.specs.Patches.{total, one, ink, patch_at}
 use Rattle.blobs.specs.declared.Blob.{Blob}
 use Rattle.blobs.proofs.Sums.{total_next}
 use Rattle.candidates.specs.Ring.{passes, ring_score, center, size_of, ring_of, candidate_of, center_at, candidate_at, CandidateList}
-use Rattle.candidates.specs.Bounds.{Listable, Storable, stored_record, stored_place, stored_count}
+use Rattle.candidates.specs.Bounds.{Listable, stored_record}
 use Rattle.candidates.specs.declared.Ring.{Ring}
-use Rattle.candidates.specs.declared.Ring.TheVariants.{Passed, Failed}
+use Rattle.std.specs.Prelude.{Some, None}
 use Rattle.candidates.proofs.Fours.{four_set, four_long, four_0, four_1, four_2, four_3, four_before, four_rest}
 use Rattle.candidates.proofs.Held.{pixels_held}
 use Rattle.candidates.proofs.Rules.{passes_area, ring_yes, ring_no}
@@ -137,44 +135,34 @@ module _ (m : List ℕ) (luma : List Float) (w h : ℕ) (t : ℕ → Blob) where
             p_rest = drop-set-lt (k + 1) p k n (omega arith) ∙ drop_later k (k + 1) p p₀ (omega arith) H.p_rest;
           }
 
-  -- ---- a turn of the loop
+  -- ---- a turn of the loop: with a candidate, or with none
 
-  pub list_turn : (n : ℕ) (c₀ : List Float) (p₀ : List ℕ) (c : List Float) (p : List ℕ) (k : ℕ) (c' : List Float) (p' : List ℕ) (k' : ℕ) (ring : Ring)
-      → CandidateList m luma w h t n c₀ p₀ c p k → ring ≡ ring_of m luma w h (t n) → Storable ring n k c p
-      → k' ≡ stored_count ring k → c' ≡ stored_record ring k c → p' ≡ stored_place ring n k p → CandidateList m luma w h t (n + 1) c₀ p₀ c' p' k'
-  unfolding stored_count stored_record stored_place
-  list_turn n c₀ p₀ c p k c' p' k' ring H e r ek ec ep = ⊎_elim
-      (λ y.
-      let q : ring ≡ Passed (center (t n)) (ring_score m luma w h (t n)) (size_of (t n)) = e ∙ ring_yes m luma w h (t n) y in
-      let o = r.room (λ f. let z : ◌≡◌ {A = ℕ} 0 1 = cc in omega arith) in
-      subst (λ z. CandidateList m luma w h t (n + 1) c₀ p₀ c' p' z) (sym (ek ∙ ap (λ z. stored_count z k) q))
-      (subst (λ z. CandidateList m luma w h t (n + 1) c₀ p₀ c' z (k + 1)) (sym (ep ∙ ap (λ z. stored_place z n k p) q))
-      (subst (λ z. CandidateList m luma w h t (n + 1) c₀ p₀ z (set p k n) (k + 1)) (sym (ec ∙ ap (λ z. stored_record z k c) q))
-      (list_added H (subst T (sym y) tt) o.0 o.1))))
-      (λ y.
-      let q : ring ≡ Failed = e ∙ ring_no m luma w h (t n) y in
-      subst (λ z. CandidateList m luma w h t (n + 1) c₀ p₀ c' p' z) (sym (ek ∙ ap (λ z. stored_count z k) q))
-      (subst (λ z. CandidateList m luma w h t (n + 1) c₀ p₀ c' z k) (sym (ep ∙ ap (λ z. stored_place z n k p) q))
-      (subst (λ z. CandidateList m luma w h t (n + 1) c₀ p₀ z p k) (sym (ec ∙ ap (λ z. stored_record z k c) q))
-      (list_passed_over H y))))
-      (either (passes m luma w h (t n)))
+  module _ {n : ℕ} {c₀ : List Float} {p₀ : List ℕ} {c : List Float} {p : List ℕ} {k : ℕ} (H : CandidateList m luma w h t n c₀ p₀ c p k) where
+    pub list_with : (ring : Ring) (d : List Float) (q : List ℕ) → Some ring ≡ ring_of m luma w h (t n) → 4 * k + 4 ≤ length c → k < length p
+        → d ≡ stored_record ring k c → q ≡ set p k n → CandidateList m luma w h t (n + 1) c₀ p₀ d q (k + 1)
+    unfolding stored_record
+    list_with ring d q e room place ec ep =
+        let r = ring_yes m luma w h (t n) ring e in
+        subst (λ z. CandidateList m luma w h t (n + 1) c₀ p₀ d z (k + 1)) (sym ep)
+        (subst (λ z. CandidateList m luma w h t (n + 1) c₀ p₀ z (set p k n) (k + 1)) (sym (ec ∙ ap (λ z. stored_record z k c) r.1))
+        (list_added H (subst T (sym r.0) tt) room place))
+
+    pub list_without : None ≡ ring_of m luma w h (t n) → CandidateList m luma w h t (n + 1) c₀ p₀ c p k
+    list_without e = list_passed_over H (ring_no m luma w h (t n) e)
 
   -- ---- at most ⌊w·h/32⌋ candidates: each has an area of 32 or more
 
   abbrev pub areas : ℕ → ℕ
   areas n = total (λ j. (t j).area) one n
 
-  pub count_turn : (n k k' : ℕ) (ring : Ring) → ring ≡ ring_of m luma w h (t n) → k' ≡ stored_count ring k → 32 * k ≤ areas n → 32 * k' ≤ areas (n + 1)
-  unfolding stored_count
-  count_turn n k k' ring e ek a =
+  pub count_with : (n k : ℕ) (ring : Ring) → Some ring ≡ ring_of m luma w h (t n) → 32 * k ≤ areas n → 32 * (k + 1) ≤ areas (n + 1)
+  count_with n k ring e a =
       let s : areas (n + 1) ≡ areas n + (t n).area = total_next (λ j. (t j).area) n in
-      ⊎_elim
-      (λ y.
-      let q : k' ≡ k + 1 = ek ∙ ap (λ z. stored_count z k) (e ∙ ring_yes m luma w h (t n) y) in
-      let o : 32 ≤ (t n).area = passes_area m luma w h (t n) (subst T (sym y) tt) in
-      omega arith)
-      (λ y. let q : k' ≡ k = ek ∙ ap (λ z. stored_count z k) (e ∙ ring_no m luma w h (t n) y) in omega arith)
-      (either (passes m luma w h (t n)))
+      let o : 32 ≤ (t n).area = passes_area m luma w h (t n) (subst T (sym (ring_yes m luma w h (t n) ring e).0) tt) in
+      omega arith
+
+  pub count_without : (n k : ℕ) → 32 * k ≤ areas n → 32 * k ≤ areas (n + 1)
+  count_without n k a = let s : areas (n + 1) ≡ areas n + (t n).area = total_next (λ j. (t j).area) n in omega arith
 
 -- room for the candidates: of the areas, which add up to the dark pixels, each candidate takes 32 or more
 module _ (w h : ℕ) (m : List ℕ) (luma : List Float) (l : List ℕ) (n : ℕ) (c₀ : List Float) (p₀ : List ℕ) (R : Listable w h m luma l n c₀ p₀) where
@@ -186,35 +174,21 @@ module _ (w h : ℕ) (m : List ℕ) (luma : List Float) (l : List ℕ) (n : ℕ)
       let v : length m ≡ w * h = R.planes.mask_long in
       omega arith
 
-  pub storable : (j k : ℕ) (c : List Float) (p : List ℕ) (ring : Ring) → j < n → 32 * k ≤ areas m luma w h (patch_at l) j → length c ≡ length c₀ → length p ≡ length p₀
-      → ring ≡ ring_of m luma w h (patch_at l j) → Storable ring j k c p
-  unfolding stored_count
-  storable j k c p ring a b lc lp e =
+  -- room for one record more
+  pub record Room (j k : ℕ) (c : List Float) (p : List ℕ) : Type 0 where
+    pub place_held : j < 2 ^ 32
+    pub count_held : k < 2 ^ 32
+    pub candidates_room : 4 * k + 4 ≤ length c
+    pub places_room : k < length p
+
+  pub room_for : (j k : ℕ) (c : List Float) (p : List ℕ) (ring : Ring) → j < n → 32 * k ≤ areas m luma w h (patch_at l) j → length c ≡ length c₀ → length p ≡ length p₀
+      → Some ring ≡ ring_of m luma w h (patch_at l j) → Room j k c p
+  room_for j k c p ring a b lc lp e =
       let big : w * h ≤ 16777216 = pixels_held w h R.planes.w_held R.planes.h_held in
       let few : 2 * n ≤ length m + 1 = R.patches.few in
       let long : length m ≡ w * h = R.planes.mask_long in
-      let here : areas m luma w h (patch_at l) j ≤ w * h = areas_held j (omega arith) in
       let next : areas m luma w h (patch_at l) (j + 1) ≤ w * h = areas_held (j + 1) (omega arith) in
+      let more : 32 * (k + 1) ≤ areas m luma w h (patch_at l) (j + 1) = count_with m luma w h (patch_at l) j k ring e b in
       let rc : 4 * (w * h / 32) ≤ length c₀ = R.candidates_long in
       let rp : w * h / 32 ≤ length p₀ = R.places_long in
-      record {
-        place_held = omega arith;
-        count_held = omega arith;
-        room = λ f. ⊎_elim
-            (λ y.
-            let o : 32 * (k + 1) ≤ areas m luma w h (patch_at l) (j + 1) = count_turn m luma w h (patch_at l) j k (k + 1) ring e
-            (ap (λ z. stored_count z k) (sym (e ∙ ring_yes m luma w h (patch_at l j) y))) b in
-            (omega arith, omega arith))
-            (λ y. absurd (f (e ∙ ring_no m luma w h (patch_at l j) y)))
-            (either (passes m luma w h (patch_at l j)));
-      }
-
--- the arms of `store`
-pub stored_passed : (ring : Ring) (p : Point) (s z : Float) (j k : ℕ) (c : List Float) (l : List ℕ) → ring ≡ Passed p s z
-    → (k + 1 ≡ stored_count ring k) × (set (set (set (set c (4 * k) p.x) (4 * k + 1) p.y) (4 * k + 2) s) (4 * k + 3) z ≡ stored_record ring k c) × (set l k j ≡ stored_place ring j k l)
-unfolding stored_count stored_record stored_place
-stored_passed ring p s z j k c l e = (sym (ap (λ r. stored_count r k) e), sym (ap (λ r. stored_record r k c) e), sym (ap (λ r. stored_place r j k l) e))
-
-pub stored_failed : (ring : Ring) (j k : ℕ) (c : List Float) (l : List ℕ) → ring ≡ Failed → (k ≡ stored_count ring k) × (c ≡ stored_record ring k c) × (l ≡ stored_place ring j k l)
-unfolding stored_count stored_record stored_place
-stored_failed ring j k c l e = (sym (ap (λ r. stored_count r k) e), sym (ap (λ r. stored_record r k c) e), sym (ap (λ r. stored_place r j k l) e))
+      record { place_held = omega arith; count_held = omega arith; candidates_room = omega arith; places_room = omega arith }

@@ -10,7 +10,9 @@ use Rattle.base.specs.Loops.{filled, by_row}
 use Rattle.base.proofs.Plane.{length_filled, filled_at, filled_past, filled_is}
 use Rattle.base.proofs.Table.{length_table, table_at, take_filled}
 use Rattle.frame.specs.Image.{Image}
-use Rattle.frame.specs.Refusals.{lowest_of}
+use Rattle.frame.specs.Refusals.{number, lowest_of}
+use Rattle.frame.specs.declared.refusals.Refusal.{Refusal}
+use Rattle.frame.proofs.Given.{positive}
 use Rattle.frame.specs.declared.FrameSpec.{FrameSpec}
 use Rattle.sampling.specs.Luma.{luma_at, luma_plane}
 use Rattle.mask.specs.Mask.{mask_entry, mask_plane, is_dark, radius}
@@ -22,11 +24,22 @@ use Rattle.blobs.specs.declared.Blob.{Blob}
 use Rattle.candidates.specs.Ring.{CandidateList}
 use Rattle.candidates.specs.Areas.{Areas, areas, area_short, look_tests}
 use Rattle.candidates.specs.Bounds.{PlanesHeld, Listable, Ready}
-use Rattle.candidates.specs.Promises.{Looked}
+use Rattle.candidates.specs.Promises.{Looked, Listing}
 use Rattle.candidates.proofs.Refusing.{clear, ready_of}
 
 pub ready : (img : Image) (f : FrameSpec) (a : Areas) → lowest_of (look_tests img f a) ≡ 0 → Ready img f a
 ready img f a e = let c = clear img f (area_short img a) false e in ready_of img f a c c.long
+
+-- ---- the public function's two ends
+
+pub listing_refused : (img : Image) (f : FrameSpec) (a : Areas) (r : Refusal) → number r ≡ lowest_of (look_tests img f a) → Listing img f a a (number r) 0 0 0
+listing_refused img f a r e =
+    let some = positive r in
+    record { given = e; accepted = λ z. absurd (omega (arith, e, z)); refused = λ z. (refl, refl, refl, refl) }
+
+pub listing_found : (img : Image) (f : FrameSpec) (a b : Areas) (n k waited : ℕ) → 0 ≡ lowest_of (look_tests img f a) → Looked img f a b n k waited
+    → Listing img f a b 0 n k waited
+listing_found img f a b n k waited e l = record { given = e; accepted = λ z. l; refused = λ z. absurd (omega (arith, e, z)) }
 
 -- ---- the parts put together
 

@@ -1,6 +1,6 @@
 -- The tests of a call on a picture: their numbers, and what is known where none of them holds. Assumes nothing.
 use Prim.Native.Nat.{ℕ, ◌≤◌}
-use mathlib.Core.Path.{◌≡◌, refl}
+use mathlib.Core.Path.{◌≡◌, refl, ap, ◌∙◌}
 use mathlib.Core.Bool.{Bool, true, false, cond, ◌||◌}
 use mathlib.Core.Logic.{inl, inr}
 use native.Mathlib.Omega.{arith}
@@ -15,7 +15,7 @@ use Rattle.frame.proofs.Held.{frame_held, capture_held}
 use Rattle.frame.proofs.Lowest.{Rising, lowest_of_lem, none_tested}
 use Rattle.base.proofs.Tests.{or_left, or_right, fails}
 use Rattle.markers.specs.Layout.{no_layout}
-use Rattle.candidates.specs.Areas.{Areas, lengths_of, smallest, shorter, area_short, picture_tests}
+use Rattle.candidates.specs.Areas.{Areas, lengths_of, smallest, shorter, area_short, picture_tests, look_tests}
 use Rattle.candidates.specs.Bounds.{Ready}
 use Rattle.candidates.specs.declared.Lengths.{Lengths}
 
@@ -79,6 +79,11 @@ tests_agree img f s w s' w' h = go (frame_outside f) refl (capture_wrong img) re
     go true e q d n = refl
     go false e true d n = refl
     go false e false d n = let x = h e d in λ i. ladder false false (x.0 i) (x.1 i) n
+
+-- a look's tests, by the lengths of its areas
+pub by_lengths : (img : Image) (f : FrameSpec) (a : Areas) (l : Lengths) {n : ℕ} → l ≡ lengths_of a
+    → n ≡ lowest_of (picture_tests img f (shorter l (smallest img.w img.h)) false) → n ≡ lowest_of (look_tests img f a)
+by_lengths img f a l e g = g ∙ ap (λ z. lowest_of (picture_tests img f (shorter z (smallest img.w img.h)) false)) e
 
 -- ---- the areas of a look
 

@@ -1,11 +1,13 @@
 -- Probes one after the other. Assumes nothing.
-use Prim.Native.Nat.{ℕ, ◌+◌, ◌≤◌}
+use Prim.Native.Nat.{ℕ, ◌+◌, ◌≤◌, ◌<◌}
 use mathlib.Core.Path.{◌≡◌, refl, sym, ap, subst, ◌∙◌}
 use mathlib.Core.Bool.{Bool, true, false, cond, beq}
 use mathlib.Core.List.{List, [], ◌∷◌, ◌++◌}
 use native.Mathlib.Omega.{arith}
 use lib.Dec.{ltb}
-use lib.ListN.{length-append}
+use lib.ListN.{length, take, get_or, length-append}
+use Rattle.std.proofs.lemmas.List.{length-take-le, take_more}
+use Rattle.std.proofs.Math.Seq.{take-length}
 use lib.Ieee.{Float}
 use Rattle.float.specs.Floats.{◌⊕◌}
 use Rattle.candidates.specs.Ring.{tallied, probe_step, probed}
@@ -79,3 +81,21 @@ module _ (m : List ℕ) (luma : List Float) (w h : ℕ) where
         sound = q.sound;
         few = omega (arith, x, y, length-append a b);
       }
+
+  pub probing_as : {a b : List Probe} {s r : Tally} → a ≡ b → Probing m luma w h a s r → Probing m luma w h b s r
+  probing_as {s = s} {r = r} e p = subst (λ z. Probing m luma w h z s r) e p
+
+  -- probes in a loop: none yet, one more, and all
+  pub probing_nothing : (s : Tally) → Sound s → Probing m luma w h [] s s
+  unfolding probed
+  probing_nothing s k = record { is = refl; sound = k; few = omega arith }
+
+  pub probing_next : (l : List Probe) (i : ℕ) (d : Probe) (s r t : Tally) → i < length l → Probing m luma w h (take i l) s r
+      → Probing m luma w h (get_or l i d ∷ []) r t → Probing m luma w h (take (i + 1) l) s t
+  probing_next l i d s r t k p q = probing_as (sym (take_more l i d k)) (probing_more (take i l) (get_or l i d ∷ []) s r t p q)
+
+  pub probing_upto : (l : List Probe) (i : ℕ) (s r : Tally) → i ≤ length l → Probing m luma w h (take i l) s r → r.made ≤ s.made + i
+  probing_upto l i s r k p = let x = p.few in omega (arith, x, length-take-le i l k)
+
+  pub probing_end : (l : List Probe) (i : ℕ) (s r : Tally) → i ≡ length l → Probing m luma w h (take i l) s r → Probing m luma w h l s r
+  probing_end l i s r e p = probing_as (ap (λ z. take z l) e ∙ take-length l) p

@@ -7,6 +7,7 @@ use Rattle.blobs.specs.Patches.{record_length}
 use Rattle.candidates.specs.Ring.{candidate_length}
 use Rattle.candidates.specs.declared.Lengths.{Lengths}
 use Rattle.frame.specs.declared.FrameSpec.{FrameSpec}
+use Rattle.frame.specs.declared.refusals.Refusal.TheVariants.{FrameOutside, CaptureWrong, AreaShort, CanonicalWrong, NoLayout, CaptureSmall}
 
 -- ---- what is lent
 
@@ -91,12 +92,12 @@ area_short img a = shorter (lengths_of a) (smallest img.w img.h)
 -- of the call is too short; wrong: its canonical image is not of the right length, false where it is handed none
 unfoldable pub picture_tests : Image → FrameSpec → Bool → Bool → List Check
 picture_tests img f short wrong =
-    check 1 (frame_outside f)
-    ∷ check 2 (capture_wrong img)
-    ∷ check 3 short
-    ∷ check 4 wrong
-    ∷ check 5 (no_layout f)
-    ∷ check 6 (capture_small img)
+    check FrameOutside (frame_outside f)
+    ∷ check CaptureWrong (capture_wrong img)
+    ∷ check AreaShort short
+    ∷ check CanonicalWrong wrong
+    ∷ check NoLayout (no_layout f)
+    ∷ check CaptureSmall (capture_small img)
     ∷ []
 
 -- `fiducial_candidates`, `detect_fiducials`

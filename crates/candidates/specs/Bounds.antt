@@ -11,7 +11,6 @@ use Rattle.candidates.specs.Ring.{probed, candidate_length}
 use Rattle.candidates.specs.declared.Probe.{Probe}
 use Rattle.candidates.specs.declared.Tally.{Tally}
 use Rattle.candidates.specs.declared.Ring.{Ring}
-use Rattle.candidates.specs.declared.Ring.TheVariants.{Passed, Failed}
 
 -- the mask and the luma plane of a picture w by h
 pub record PlanesHeld (w h : ℕ) (m : List ℕ) (luma : List Float) : Type 0 where
@@ -44,26 +43,11 @@ pub record Probing (m : List ℕ) (luma : List Float) (w h : ℕ) (l : List Prob
   pub sound : Sound r
   pub few : r.made ≤ s.made + length l
 
--- the areas and the number of candidates after the ring rule spoke of patch j, with k candidates before it
+-- the list once the record of a patch that passed is stored after k others
 unfoldable pub stored_record : Ring → ℕ → List Float → List Float
-stored_record (Passed p score size) k c =
+stored_record r k c =
     let i = candidate_length * k in
-    set (set (set (set c i p.x) (i + 1) p.y) (i + 2) score) (i + 3) size
-stored_record Failed k c = c
-
-unfoldable pub stored_place : Ring → ℕ → ℕ → List ℕ → List ℕ
-stored_place (Passed p score size) j k l = set l k j
-stored_place Failed j k l = l
-
-unfoldable pub stored_count : Ring → ℕ → ℕ
-stored_count (Passed p score size) k = k + 1
-stored_count Failed k = k
-
--- room for one record more, where one is to be stored
-pub record Storable (ring : Ring) (j k : ℕ) (c : List Float) (l : List ℕ) : Type 0 where
-  pub place_held : j < 2 ^ 32
-  pub count_held : k < 2 ^ 32
-  pub room : (ring ≡ Failed → ⊥) → (candidate_length * k + candidate_length ≤ length c) × (k < length l)
+    set (set (set (set c i r.center.x) (i + 1) r.center.y) (i + 2) r.score) (i + 3) r.size
 
 -- the planes, the list of their patches, and areas of the smallest length or longer
 pub record Listable (w h : ℕ) (m : List ℕ) (luma : List Float) (l : List ℕ) (n : ℕ) (c : List Float) (p : List ℕ)

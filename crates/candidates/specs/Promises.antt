@@ -1,8 +1,8 @@
 -- What `fiducial_candidates` does. Assumes nothing.
-use Rattle.std.specs.Prelude.{ℕ, ◌≤◌, ◌≡◌, List, length, drop}
+use Rattle.std.specs.Prelude.{ℕ, ◌≤◌, ◌≡◌, List, length, drop, Result, Ok, Err}
 use Rattle.base.specs.Loops.{table, filled}
 use Rattle.frame.specs.Image.{Image}
-use Rattle.frame.specs.Refusals.{verdict_of, lowest_of}
+use Rattle.frame.specs.Refusals.{lowest_of}
 use Rattle.sampling.specs.Luma.{luma_at, luma_plane}
 use Rattle.mask.specs.Mask.{integral_entry, mask_entry, mask_plane}
 use Rattle.blobs.specs.Patches.{patch_at, Waited, PatchList}
@@ -11,7 +11,8 @@ use Rattle.blobs.specs.Moments.{MostHeld}
 use Rattle.candidates.specs.Ring.{CandidateList}
 use Rattle.candidates.specs.Areas.{Areas, pixels, integral_length, look_tests}
 use Rattle.frame.specs.declared.FrameSpec.{FrameSpec}
-use Rattle.frame.specs.declared.Verdict.{Verdict}
+use Rattle.frame.specs.declared.refusals.Refusal.{Refusal}
+use Rattle.candidates.specs.declared.Counts.{Counts}
 
 -- ---- the planes and lists after a look at the picture that found n patches and k candidates (waited: the most pixels
 -- that waited). [2.18] So it is after an acceptance, and after 7 to 10
@@ -40,8 +41,16 @@ pub record Looked (img : Image) (f : FrameSpec) (a b : Areas) (n k waited : ℕ)
   pub waiting_long : length b.waiting ≡ length a.waiting
   pub waiting_rest : drop (pixels img) b.waiting ≡ drop (pixels img) a.waiting
 
--- ---- `fiducial_candidates`: [2.15] accepts with any number of candidates
-pub record Listing (img : Image) (f : FrameSpec) (a b : Areas) (v : Verdict) (n k waited : ℕ) : Type 0 where
-  pub given : v ≡ verdict_of (lowest_of (look_tests img f a))
+-- ---- `fiducial_candidates`: its refusal's number, or 0; [2.15] accepts with any number of candidates
+pub record Listing (img : Image) (f : FrameSpec) (a b : Areas) (number n k waited : ℕ) : Type 0 where
+  pub given : number ≡ lowest_of (look_tests img f a)
   pub accepted : lowest_of (look_tests img f a) ≡ 0 → Looked img f a b n k waited
   pub refused : 1 ≤ lowest_of (look_tests img f a) → (b ≡ a) × (n ≡ 0) × (k ≡ 0) × (waited ≡ 0)
+
+-- the counts in its answer: 0 where it is refused
+abbrev pub no_counts : Counts
+no_counts = record { patches = 0; candidates = 0; waited = 0 }
+
+abbrev pub counts_of : Result Counts Refusal → Counts
+counts_of (Ok c) = c
+counts_of (Err r) = no_counts

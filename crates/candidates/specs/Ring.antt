@@ -1,6 +1,6 @@
 -- The ring rule and the candidates (requirements, 8). m is the mask and luma the luma plane of a picture w
 -- by h. Assumes nothing.
-use Rattle.std.specs.Prelude.{ℕ, ◌+◌, ◌*◌, ◌-◌, ◌/◌, ◌<◌, min, ◌≡◌, Bool, true, false, cond, ◌&&◌, ◌||◌, List, [], ◌∷◌, ◌++◌, T, leb, ltb, eqb, length, get_or, drop, Float}
+use Rattle.std.specs.Prelude.{ℕ, ◌+◌, ◌*◌, ◌-◌, ◌/◌, ◌<◌, min, ◌≡◌, Bool, true, false, cond, ◌&&◌, ◌||◌, List, [], ◌∷◌, ◌++◌, T, leb, ltb, eqb, length, get_or, drop, Float, Option, Some, None}
 use Rattle.std.specs.Bool.{beq}
 use Rattle.std.specs.Float.{nan}
 use Rattle.std.specs.Float.Ieee.{lt, le}
@@ -12,7 +12,6 @@ use Rattle.candidates.specs.declared.Candidate.{Candidate}
 use Rattle.candidates.specs.declared.Probe.{Probe}
 use Rattle.candidates.specs.declared.Tally.{Tally}
 use Rattle.candidates.specs.declared.Ring.{Ring}
-use Rattle.candidates.specs.declared.Ring.TheVariants.{Passed, Failed}
 
 -- the middle and the half width of a box along one side
 abbrev pub middle : ℕ → ℕ → Float
@@ -122,9 +121,11 @@ center t = record { x = f64 t.sx ⊘ f64 t.area ⊕ d64 5 10; y = f64 t.sy ⊘ f
 unfoldable pub size_of : Blob → Float
 size_of t = (f64 (wide t) ⊕ f64 (high t)) ⊘ f64 2
 
--- what `candidate_of` says of a patch
-unfoldable pub ring_of : List ℕ → List Float → ℕ → ℕ → Blob → Ring
-ring_of m luma w h t = cond (passes m luma w h t) (Passed (center t) (ring_score m luma w h t) (size_of t)) Failed
+-- what `candidate_of` says of a patch: with centre, score and size where it passes
+unfoldable pub ring_of : List ℕ → List Float → ℕ → ℕ → Blob → Option Ring
+ring_of m luma w h t =
+    let ring : Ring = record { center = center t; score = ring_score m luma w h t; size = size_of t } in
+    cond (passes m luma w h t) (Some ring) None
 
 -- [8.6] a candidate record, with its patch's place in the patch list from 0
 unfoldable pub candidate_of : List ℕ → List Float → ℕ → ℕ → ℕ → Blob → Candidate

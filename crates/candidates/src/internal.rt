@@ -40,19 +40,18 @@ pub fn look(
     planes(capture, w, h, frame, luma, integral, mask);
     let n = w * h;
     let labelled = label(&mask[..n], w, h, seen, waiting, patches);
-    let found = labelled.patches;
     let k = list(
         &mask[..n],
         &luma[..n],
         w,
         h,
         patches,
-        found,
+        labelled.patches,
         candidates,
         blob_index,
     );
     Counts {
-        patches: found,
+        patches: labelled.patches,
         candidates: k,
         waited: labelled.waited,
     }

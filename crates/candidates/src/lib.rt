@@ -1,13 +1,14 @@
 // The ring rule and the list of candidates.
 #![tactic(auto)]
 
+ghost use Rattle.std.specs.Prelude.{◌≡◌};
 ghost use Rattle.frame.specs.Image.{image};
-ghost use Rattle.candidates.specs.Areas.{areas};
-ghost use Rattle.candidates.specs.Promises.{Listing};
+ghost use Rattle.frame.specs.Refusals.{number_of};
+ghost use Rattle.candidates.specs.Areas.{areas, lengths_of};
+ghost use Rattle.candidates.specs.Promises.{counts_of, Listing};
 
-use frame::{FrameSpec, Point, Verdict};
-use internal::look;
-use tests::refused;
+use frame::{FrameSpec, Point, Refusal};
+use internal::{look, refused};
 
 mod bullseye;
 mod constants;
@@ -28,11 +29,12 @@ pub struct Candidate {
     pub blob_index: usize,
 }
 
-// What the ring rule says of a patch: with centre, score and size where it passes.
+// What the ring rule says of a patch that passes.
 #[derive(Clone, Copy)]
-pub enum Ring {
-    Passed(Point, f64, f64),
-    Failed,
+pub struct Ring {
+    pub center: Point,
+    pub score: f64,
+    pub size: f64,
 }
 
 // A place to look at, and whether it should be dark.
@@ -68,18 +70,37 @@ pub struct Lengths {
     pub blob_index: usize,
 }
 
-// How many records the lists hold, and the most pixels that waited.
-#[derive(Clone, Copy)]
-pub struct Counts {
-    pub patches: usize,
-    pub candidates: usize,
-    pub waited: usize,
+impl Lengths {
+    // The lengths of the areas that a call is lent.
+    pub fn of(
+        luma: &[f32],
+        integral: &[f64],
+        mask: &[u8],
+        seen: &[u8],
+        waiting: &[u32],
+        patches: &[u64],
+        candidates: &[f64],
+        blob_index: &[u32],
+    ) -> Lengths
+        ensures { result ≡ lengths_of (areas luma.now integral.now mask.now seen.now waiting.now
+            patches.now candidates.now blob_index.now) }
+    {
+        Lengths {
+            luma: luma.len(),
+            integral: integral.len(),
+            mask: mask.len(),
+            seen: seen.len(),
+            waiting: waiting.len(),
+            patches: patches.len(),
+            candidates: candidates.len(),
+            blob_index: blob_index.len(),
+        }
+    }
 }
 
-// The answer of `fiducial_candidates`: the numbers are 0 where it is refused.
-#[derive(Clone, Copy)]
-pub struct Listed {
-    pub verdict: Verdict,
+// How many records the lists hold, and the most pixels that waited.
+#[derive(Clone, Copy, Default)]
+pub struct Counts {
     pub patches: usize,
     pub candidates: usize,
     pub waited: usize,
@@ -99,42 +120,20 @@ pub fn fiducial_candidates(
     patches: &mut [u64],
     candidates: &mut [f64],
     blob_index: &mut [u32],
-) -> Listed
-    ensures { Listing (image w h capture.now) frame
+) -> Result<Counts, Refusal>
+    ensures { let counts = counts_of result in
+        Listing (image w h capture.now) frame
         (areas luma.old integral.old mask.old seen.old
         waiting.old patches.old candidates.old blob_index.old)
         (areas luma.new integral.new mask.new seen.new waiting.new
         patches.new candidates.new blob_index.new)
-        result.verdict result.patches result.candidates result.waited }
+        (number_of result) counts.patches counts.candidates counts.waited }
 {
-    let lengths = Lengths {
-        luma: luma.len(),
-        integral: integral.len(),
-        mask: mask.len(),
-        seen: seen.len(),
-        waiting: waiting.len(),
-        patches: patches.len(),
-        candidates: candidates.len(),
-        blob_index: blob_index.len(),
-    };
-    let number = refused(capture, w, h, frame, lengths);
-    if number != 0 {
-        let verdict = Verdict::Refused(number);
-        return Listed {
-            verdict: verdict,
-            patches: 0,
-            candidates: 0,
-            waited: 0,
-        };
-    }
-    let c = look(
-        capture, w, h, frame, luma, integral, mask, seen, waiting, patches, candidates, blob_index,
+    let lengths = Lengths::of(
+        luma, integral, mask, seen, waiting, patches, candidates, blob_index,
     );
-    let accepted = Verdict::Accepted;
-    Listed {
-        verdict: accepted,
-        patches: c.patches,
-        candidates: c.candidates,
-        waited: c.waited,
-    }
+    refused(capture, w, h, frame, lengths)?;
+    Ok(look(
+        capture, w, h, frame, luma, integral, mask, seen, waiting, patches, candidates, blob_index,
+    ))
 }

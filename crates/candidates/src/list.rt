@@ -1,7 +1,7 @@
 // The flat list of candidates: written, and read.
-ghost use Rattle.std.specs.Prelude.{◌≡◌, ◌+◌, ◌*◌, ◌<◌, length};
+ghost use Rattle.std.specs.Prelude.{◌≡◌, ◌+◌, ◌*◌, ◌^◌, ◌≤◌, ◌<◌, length, set};
 ghost use Rattle.candidates.specs.Ring.{CandidateList, candidate_at, center_at};
-ghost use Rattle.candidates.specs.Bounds.{stored_record, stored_place, stored_count, Storable, Listable};
+ghost use Rattle.candidates.specs.Bounds.{stored_record, Listable};
 ghost use Rattle.blobs.specs.Patches.{patch_at};
 
 use super::ring_rule::candidate_of;
@@ -9,25 +9,21 @@ use super::{Candidate, Ring};
 use blobs::internal::blob_at;
 use frame::Point;
 
-// Writes the record of patch j where it passed, after k others, and answers their number.
-fn store(ring: Ring, j: usize, k: usize, candidates: &mut [f64], blob_index: &mut [u32]) -> usize
-    requires { Storable ring j k candidates.old blob_index.old }
-    ensures { (result ≡ stored_count ring k) × (candidates.new
-        ≡ stored_record ring k candidates.old) × (blob_index.new
-        ≡ stored_place ring j k blob_index.old) }
+// Writes the record of patch j, after k others.
+fn store(ring: Ring, j: usize, k: usize, candidates: &mut [f64], blob_index: &mut [u32])
+    requires place_held { j < 2 ^ 32 }
+    requires count_held { k < 2 ^ 32 }
+    requires candidates_room { 4 * k + 4 ≤ length candidates.old }
+    requires places_room { k < length blob_index.old }
+    ensures stored { candidates.new ≡ stored_record ring k candidates.old }
+    ensures placed { blob_index.new ≡ set blob_index.old k j }
 {
-    match ring {
-        Ring::Passed(center, score, size) => {
-            let i = 4 * k;
-            candidates[i] = center.x;
-            candidates[i + 1] = center.y;
-            candidates[i + 2] = score;
-            candidates[i + 3] = size;
-            blob_index[k] = j as u32;
-            k + 1
-        }
-        Ring::Failed => k,
-    }
+    let i = 4 * k;
+    candidates[i] = ring.center.x;
+    candidates[i + 1] = ring.center.y;
+    candidates[i + 2] = ring.score;
+    candidates[i + 3] = ring.size;
+    blob_index[k] = j as u32;
 }
 
 // The candidates among n patches, in patch order, and their number.
@@ -46,12 +42,12 @@ pub fn list(
         candidates.old blob_index.old candidates.new blob_index.new
         result }
 {
-    let mut k: usize = 0;
-    let mut j: usize = 0;
-    while j < n {
-        let ring = candidate_of(mask, luma, w, h, blob_at(patches, j));
-        k = store(ring, j, k, candidates, blob_index);
-        j += 1;
+    let mut k = 0;
+    for j in 0..n {
+        if let Some(ring) = candidate_of(mask, luma, w, h, blob_at(patches, j)) {
+            store(ring, j, k, candidates, blob_index);
+            k += 1;
+        }
     }
     k
 }
@@ -62,12 +58,8 @@ pub fn candidate_at(candidates: &[f64], blob_index: &[u32], i: usize) -> Candida
     ensures { result ≡ candidate_at candidates.now blob_index.now i }
 {
     let at = 4 * i;
-    let center = Point {
-        x: candidates[at],
-        y: candidates[at + 1],
-    };
     Candidate {
-        center: center,
+        center: center_at(candidates, i),
         score: candidates[at + 2],
         size: candidates[at + 3],
         blob_index: blob_index[i] as usize,

@@ -5,19 +5,18 @@ ghost use Rattle.candidates.specs.Bounds.{PlanesHeld, BlobHeld};
 
 use super::bullseye::verify_bullseye;
 use super::{Ring, VERIFY_THRESHOLD};
-use base::min;
 use blobs::Blob;
 use frame::Point;
 
 // Area, sides, aspect and fill keep their bounds.
 fn shaped(w: usize, h: usize, b: Blob) -> bool
-    requires fact_1 { (w ≤ 4096) × (h ≤ 4096) }
-    requires fact_2 { BlobHeld w h b }
+    requires sides { (w ≤ 4096) × (h ≤ 4096) }
+    requires patch { BlobHeld w h b }
     ensures { result ≡ shaped w h b }
 {
     let bw = b.x1 - b.x0 + 1;
     let bh = b.y1 - b.y0 + 1;
-    let most = (min(w, h) / 4) as u64;
+    let most = (w.min(h) / 4) as u64;
     let aspect = (bw as f64) / (bh as f64);
     let fill = (b.area as f64) / ((bw as f64) * (bh as f64));
     let sides = (32 <= b.area) & ((10 <= bw) & (bw <= most)) & ((10 <= bh) & (bh <= most));
@@ -44,17 +43,23 @@ fn size(b: Blob) -> f64
     ((b.x1 - b.x0 + 1) as f64 + (b.y1 - b.y0 + 1) as f64) / 2.0
 }
 
-// The ring rule.
-pub fn candidate_of(mask: &[u8], luma: &[f32], w: usize, h: usize, blob: Blob) -> Ring
-    requires fact_1 { PlanesHeld w h mask.now luma.now }
-    requires fact_2 { BlobHeld w h blob }
+// The ring rule: centre, score and size of a patch that passes.
+pub fn candidate_of(mask: &[u8], luma: &[f32], w: usize, h: usize, blob: Blob) -> Option<Ring>
+    requires planes { PlanesHeld w h mask.now luma.now }
+    requires patch { BlobHeld w h blob }
     ensures { result ≡ ring_of mask.now luma.now w h blob }
 {
-    if shaped(w, h, blob) {
-        let score = verify_bullseye(mask, luma, w, h, blob);
-        if VERIFY_THRESHOLD <= score {
-            return Ring::Passed(center(blob), score, size(blob));
-        }
+    if !shaped(w, h, blob) {
+        return None;
     }
-    Ring::Failed
+    let score = verify_bullseye(mask, luma, w, h, blob);
+    if VERIFY_THRESHOLD <= score {
+        Some(Ring {
+            center: center(blob),
+            score,
+            size: size(blob),
+        })
+    } else {
+        None
+    }
 }

@@ -2,12 +2,11 @@
 ghost use Rattle.std.specs.Prelude.{◌≡◌, false, ◌≤◌};
 ghost use Rattle.candidates.specs.Areas.{smallest, shorter, picture_tests};
 ghost use Rattle.frame.specs.Image.{image};
-ghost use Rattle.frame.specs.Refusals.{lowest_of};
+ghost use Rattle.frame.specs.Refusals.{lowest_of, number_of};
 
 use super::Lengths;
-use base::min;
-use frame::FrameSpec;
 use frame::internal::{capture_small, capture_wrong, frame_outside};
+use frame::{FrameSpec, Refusal};
 use markers::internal::no_layout;
 
 // The smallest lengths of the work areas for a picture w by h.
@@ -47,11 +46,11 @@ pub fn shorter(l: Lengths, s: Lengths) -> bool
 pub fn areas_short(w: usize, h: usize, lengths: Lengths) -> bool
     ensures { w ≤ 4096 → h ≤ 4096 → result ≡ shorter lengths (smallest w h) }
 {
-    shorter(lengths, smallest(min(w, 4096), min(h, 4096)))
+    shorter(lengths, smallest(w.min(4096), h.min(4096)))
 }
 
-// The lowest number that applies to a call on a picture, or 0: short says that a work area is too
-// short, wrong that the canonical image is of a wrong length (false where there is none).
+// The lowest refusal of a call on a picture: short says that a work area is too short, wrong that
+// the canonical image is of a wrong length (false where there is none).
 pub fn picture_refused(
     capture: &[u8],
     w: usize,
@@ -59,33 +58,39 @@ pub fn picture_refused(
     frame: FrameSpec,
     short: bool,
     wrong: bool,
-) -> u32
-    ensures { result ≡ lowest_of (picture_tests (image w h capture.now) frame short wrong) }
+) -> Result<(), Refusal>
+    ensures { number_of result ≡ lowest_of (picture_tests (image w h capture.now) frame short wrong) }
 {
     if frame_outside(frame) {
-        return 1;
+        return Err(Refusal::FrameOutside);
     }
     if capture_wrong(capture, w, h) {
-        return 2;
+        return Err(Refusal::CaptureWrong);
     }
     if short {
-        return 3;
+        return Err(Refusal::AreaShort);
     }
     if wrong {
-        return 4;
+        return Err(Refusal::CanonicalWrong);
     }
     if no_layout(frame) {
-        return 5;
+        return Err(Refusal::NoLayout);
     }
     if capture_small(w, h) {
-        return 6;
+        return Err(Refusal::CaptureSmall);
     }
-    0
+    Ok(())
 }
 
-// .. to a look at the picture.
-pub fn refused(capture: &[u8], w: usize, h: usize, frame: FrameSpec, lengths: Lengths) -> u32
-    ensures { result ≡ lowest_of (picture_tests (image w h capture.now) frame
+// .. of a look at the picture.
+pub fn refused(
+    capture: &[u8],
+    w: usize,
+    h: usize,
+    frame: FrameSpec,
+    lengths: Lengths,
+) -> Result<(), Refusal>
+    ensures { number_of result ≡ lowest_of (picture_tests (image w h capture.now) frame
         (shorter lengths (smallest w h)) false) }
 {
     picture_refused(capture, w, h, frame, areas_short(w, h, lengths), false)

@@ -1,5 +1,5 @@
 -- Laws that other crates' proofs cite.
-pub mod Refused
+pub mod Refusing
 pub mod Steps
 pub mod Board
 pub mod Most

@@ -10,9 +10,6 @@ use Rattle.base.specs.Loops.{table}
 use Rattle.base.proofs.Arith.{le_or_lt}
 use Rattle.base.proofs.Table.{table_at, length_table, take_filled}
 use Rattle.frame.specs.Refusals.{lowest_of}
-use Rattle.frame.specs.declared.Verdict.{Verdict}
-use Rattle.frame.specs.declared.Verdict.TheVariants.{Accepted}
-use Rattle.frame.proofs.Given.{accepted_zero}
 use Rattle.frame.proofs.Held.{sides_held}
 use Rattle.blobs.specs.Areas.{PatchAreas}
 use Rattle.blobs.specs.Promises.{label_tests, Labelling}
@@ -20,11 +17,11 @@ use Rattle.blobs.specs.Patches.{Dark, Joined, First, PatchCount}
 use Rattle.blobs.specs.Patches.Joined.{here}
 use Rattle.blobs.proofs.Counts.{count_few}
 use Rattle.blobs.proofs.Grid.{dark_inside}
-use Rattle.blobs.proofs.Refused.{passes}
+use Rattle.blobs.proofs.Refusing.{passes}
 use Rattle.blobs.proofs.Unique.{count_unique, list_count}
 use Rattle.checkerboard.specs.Board.{square_at, board, reserved}
 use Rattle.checkerboard.specs.Most.{MostAtEverySize, DrawnExactly, ReserveAtEverySize}
-use Rattle.checkerboard.proofs.Refused.{board_passes}
+use Rattle.checkerboard.proofs.Refusing.{board_passes}
 use Rattle.checkerboard.proofs.Board.{board_long, board_dark, board_even, joined_same, chosen, chosen_pair, chosen_even, chosen_only, chosen_in}
 
 -- ---- exactly so many: the dark pixels of the pairs are the patches' first pixels
@@ -68,14 +65,14 @@ most_patches w h o p = record { exactly = board_count w h o; none_more = mask_fe
 -- ---- what is drawn
 pub drawn_exactly : DrawnExactly
 drawn_exactly w h mask mask' v d e =
-    let z = accepted_zero d.given e in
+    let z = sym d.given ∙ e in
     let p = board_passes w h (length mask) z in
     let s = sides_held w h p.0 in
     let t : take (w * h) mask' ≡ board w h = ap (take (w * h)) (d.accepted z) ∙ take_filled (square_at w) (w * h) 0 mask p.1 in
     subst (λ m. PatchCount m w (reserved w h)) (sym t) (board_count w h s.w_least)
 
 -- ---- what is labelled
-labelled_few : (w h : ℕ) (m : List ℕ) (before after : PatchAreas) (v : Verdict) (n waited : ℕ) → Labelling m w h before after v n waited → n ≤ reserved w h
+labelled_few : (w h : ℕ) (m : List ℕ) (before after : PatchAreas) (v n waited : ℕ) → Labelling m w h before after v n waited → n ≤ reserved w h
 labelled_few w h m before after v n waited l = ⊎_elim
     (λ z. let z : lowest_of (label_tests m w h before) ≡ 0 = omega arith in
     let p = passes w h (length m) _ _ _ z in
@@ -83,9 +80,9 @@ labelled_few w h m before after v n waited l = ⊎_elim
     (λ r. omega (arith, (l.untouched r).1))
     (le_or_lt (lowest_of (label_tests m w h before)) 0)
 
-board_labelled : (w h : ℕ) (before after : PatchAreas) (v : Verdict) (n waited : ℕ) → Labelling (board w h) w h before after v n waited → v ≡ Accepted → n ≡ reserved w h
+board_labelled : (w h : ℕ) (before after : PatchAreas) (v n waited : ℕ) → Labelling (board w h) w h before after v n waited → v ≡ 0 → n ≡ reserved w h
 board_labelled w h before after v n waited l e =
-    let z = accepted_zero l.given e in
+    let z = sym l.given ∙ e in
     let p = passes w h (length (board w h)) _ _ _ z in
     count_unique (board w h) w (list_count (board w h) w (l.accepted z).records) (board_count w h (sides_held w h p.0).w_least)
 

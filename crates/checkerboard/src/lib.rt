@@ -5,33 +5,30 @@
 pub mod internal; // internal.rt: drawing without the tests, for the layers above
 
 ghost use Rattle.std.specs.Prelude.{◌≡◌};
-ghost use Rattle.frame.specs.Refusals.{lowest_of};
+ghost use Rattle.frame.specs.Refusals.{number_of, lowest_of};
 ghost use Rattle.checkerboard.specs.Promises.{board_tests, Drawing};
 
-use frame::Verdict;
+use frame::Refusal;
 
-// The number of a refusal by the sides and the mask's length, or 0.
-fn refusal(w: usize, h: usize, mask: usize) -> u32
-    ensures { result ≡ lowest_of (board_tests w h mask) }
+// The tests of the sides and of the mask's length.
+fn refused(w: usize, h: usize, mask: usize) -> Result<(), Refusal>
+    ensures { number_of result ≡ lowest_of (board_tests w h mask) }
 {
     if frame::internal::sides_wrong(w, h) {
-        return 2;
+        return Err(Refusal::CaptureWrong);
     }
     if mask < w * h {
-        return 3;
+        return Err(Refusal::AreaShort);
     }
-    0
+    Ok(())
 }
 
 // Draws at the start of `mask` the checkerboard of w by h pixels, a byte a pixel: 1 (dark) where
 // column plus row is even, else 0. It has ⌈w·h/2⌉ patches, and no mask of that size has more.
-pub fn checkerboard(w: usize, h: usize, mask: &mut [u8]) -> Verdict
-    ensures { Drawing w h mask.old mask.new result }
+pub fn checkerboard(w: usize, h: usize, mask: &mut [u8]) -> Result<(), Refusal>
+    ensures { Drawing w h mask.old mask.new (number_of result) }
 {
-    let n = refusal(w, h, mask.len());
-    if n != 0 {
-        return Verdict::Refused(n);
-    }
+    refused(w, h, mask.len())?;
     internal::draw(w, h, mask);
-    Verdict::Accepted
+    Ok(())
 }

@@ -2,13 +2,16 @@
 use Prim.Native.Nat.{ℕ, ◌*◌, ◌/◌, ◌≤◌, ◌<◌}
 use mathlib.Core.Path.{◌≡◌, refl, sym, ap, subst, ◌∙◌}
 use mathlib.Core.Bool.{false, not}
-use native.Mathlib.Nat.{pos_of_ne-zero}
+use mathlib.Core.List.{List}
 use native.Mathlib.Omega.{arith}
 use lib.Dec.{T, T_not}
 use lib.ListN.{length, get_or}
 use Rattle.base.proofs.Enumerations.{rising_once}
 use Rattle.frame.specs.Image.{Image}
-use Rattle.frame.specs.Refusals.{lowest_of, Lowest, verdict_of}
+use Rattle.std.specs.Prelude.{Result, Ok}
+use Rattle.frame.specs.Refusals.{number, number_of, Check, lowest_of, Lowest}
+use Rattle.frame.specs.declared.refusals.Refusal.{Refusal}
+use Rattle.frame.proofs.Given.{positive, answer_number}
 use Rattle.frame.specs.declared.FrameSpec.{FrameSpec}
 use Rattle.frame.specs.declared.Point.{Point}
 use Rattle.frame.proofs.Lowest.{none_tested}
@@ -22,14 +25,14 @@ use Rattle.candidates.proofs.Refusing.{rising, lowest_six}
 use Rattle.candidates.proofs.Room.{candidates_few}
 use Rattle.base.proofs.Table.{length_table}
 use Rattle.frame.specs.declared.Quad.{Quad}
-use Rattle.frame.specs.declared.Verdict.{Verdict}
-use Rattle.fiducials.specs.Answers.{quad_at, places_at, no_quad, no_places, corners_as, corners_of}
-use Rattle.fiducials.specs.Corners.{Corner, Outermost, pick, shared_pick, corner_number}
-use Rattle.fiducials.specs.Corners.Corner.{TL, TR, BR, BL}
+use Rattle.fiducials.specs.Answers.{quad_at, places_at, no_quad, no_places, quad_of, places_of, corners_of}
+use Rattle.fiducials.specs.declared.pick.Corner.{Corner}
+use Rattle.fiducials.specs.Corners.{Outermost, pick, shared_pick, corner_tests}
+use Rattle.fiducials.specs.declared.pick.Corner.TheVariants.{TL, TR, BR, BL}
 use Rattle.fiducials.specs.Promises.{Undetected, MarkedBy, Cornered, place_of, centers_at, DetectionPastTests, Detection}
 use Rattle.fiducials.specs.declared.Corners.{Corners}
 use Rattle.fiducials.specs.declared.Places.{Places}
-use Rattle.fiducials.proofs.Answering.{number_from_7, number_none, as_number, as_accepted, as_refused, quad_of_lem}
+use Rattle.fiducials.proofs.Answering.{number_from_7, number_none, as_accepted, as_refused, quad_of_picks}
 use Rattle.fiducials.proofs.Named.{same_center}
 use Rattle.fiducials.proofs.Numbers.{marked_by, share, corner_lowest, tests_lowest}
 use Rattle.fiducials.proofs.Outer.{picks_outermost}
@@ -63,11 +66,10 @@ module _ (img : Image) (f : FrameSpec) (a b : Areas) (n k waited : ℕ) (R : Rea
   abbrev place : ℕ → ℕ
   place i = get_or b.blob_index i 0
 
-  number_is : (r : Corners) → r ≡ corners_of b.candidates b.blob_index img.w img.h k → r.number ≡ corner_number img.w img.h at k
-  unfolding corners_of
-  number_is r e = ap (λ (z : Corners). z.number) e ∙ as_number _ _ _
+  abbrev tests : List Check
+  tests = corner_tests img.w img.h at k
 
-  module _ (o : corner_number img.w img.h at k ≡ 0) where
+  module _ (o : lowest_of tests ≡ 0) where
     four : 0 < k
     four = let x = (number_none img.w img.h at k o).0 in omega arith
 
@@ -108,32 +110,25 @@ module _ (img : Image) (f : FrameSpec) (a b : Areas) (n k waited : ℕ) (R : Rea
         λ i. record { tl = e0 i; tr = e1 i; br = e2 i; bl = e3 i }
 
     quad_marked : MarkedBy img f (quad_at at (chosen TL) (chosen TR) (chosen BR) (chosen BL))
-    quad_marked = subst (λ z. MarkedBy img f z) (sym (quad_of_lem at k)) (marked_by img f R.capture.w_most R.capture.h_most L.patches L.candidates four)
+    quad_marked = subst (λ z. MarkedBy img f z) (sym (quad_of_picks at k)) (marked_by img f R.capture.w_most R.capture.h_most L.patches L.candidates four)
 
-  pub detecting : (r : Corners) → r ≡ corners_of b.candidates b.blob_index img.w img.h k
-      → DetectionPastTests img f a b r.number n k waited r.places r.quad
+  pub detecting : (r : Result Corners Refusal) → r ≡ corners_of b.candidates b.blob_index img.w img.h k
+      → DetectionPastTests img f a b (number_of r) n k waited (places_of r) (quad_of r)
   unfolding corners_of
   detecting r e =
-      let N = corner_number img.w img.h at k in
       let Q = quad_at at (chosen TL) (chosen TR) (chosen BR) (chosen BL) in
       let S = places_at b.blob_index (chosen TL) (chosen TR) (chosen BR) (chosen BL) in
-      let en : r.number ≡ N = number_is r e in
-      let eq : r.quad ≡ (corners_as N Q S).quad = ap (λ (z : Corners). z.quad) e in
-      let es : r.places ≡ (corners_as N Q S).places = ap (λ (z : Corners). z.places) e in
+      let en : number_of r ≡ lowest_of tests = ap number_of e ∙ answer_number _ tests in
+      let found : number_of r ≡ 0 → r ≡ Ok (record { quad = Q; places = S }) = λ o. e ∙ as_accepted _ tests (sym en ∙ o) in
       record {
         looked = L;
-        lowest = λ tests no. subst (λ z. Lowest (Undetected img f tests) z) (sym en)
-            (corner_lowest img f R.capture.w_most R.capture.h_most L.patches L.candidates tests no);
+        lowest = λ l no. subst (λ z. Lowest (Undetected img f l) z) (sym en)
+            (corner_lowest img f R.capture.w_most R.capture.h_most L.patches L.candidates l no);
         from_seven = λ o. subst (λ z. 7 ≤ z) (sym en) (number_from_7 img.w img.h at k (subst (λ z. 1 ≤ z) en o));
-        corners = λ o. subst (λ z. Cornered img f b.patches L.firsts n z) (sym (es ∙ (as_accepted N Q S (sym en ∙ o)).1)) (cornered (sym en ∙ o));
-        centers = λ o.
-            let x : r.quad ≡ Q = eq ∙ (as_accepted N Q S (sym en ∙ o)).0 in
-            let y : r.places ≡ S = es ∙ (as_accepted N Q S (sym en ∙ o)).1 in
-            x ∙ centers_are (sym en ∙ o) ∙ ap (centers_at b.patches) (sym y);
-        marked = λ o. subst (λ z. MarkedBy img f z) (sym (eq ∙ (as_accepted N Q S (sym en ∙ o)).0)) (quad_marked (sym en ∙ o));
-        none = λ o.
-            let g = as_refused N Q S (subst (λ z. 1 ≤ z) en o) in
-            (eq ∙ g.0, es ∙ g.1);
+        corners = λ o. subst (λ z. Cornered img f b.patches L.firsts n z) (sym (ap places_of (found o))) (cornered (sym en ∙ o));
+        centers = λ o. ap quad_of (found o) ∙ centers_are (sym en ∙ o) ∙ ap (centers_at b.patches) (sym (ap places_of (found o)));
+        marked = λ o. subst (λ z. MarkedBy img f z) (sym (ap quad_of (found o))) (quad_marked (sym en ∙ o));
+        none = λ o. as_refused r o;
       }
 
 -- ---- the room that `corners` asks
@@ -152,29 +147,27 @@ candidates_room img f a b n k waited R L =
 
 -- ---- the public function's two ends
 
-pub detection_refused : (img : Image) (f : FrameSpec) (a : Areas) (number : ℕ) (v : Verdict) (q : Quad) (s : Places)
-    → number ≡ lowest_of (look_tests img f a) → (number ≡ 0 → ⊥) → v ≡ verdict_of number → q ≡ no_quad → s ≡ no_places → Detection img f a a v 0 0 0 s q
-detection_refused img f a number v q s e ne ev eq es =
+pub detection_refused : (img : Image) (f : FrameSpec) (a : Areas) (r : Refusal) {n k waited : ℕ} → (n ≡ 0) × ((k ≡ 0) × (waited ≡ 0))
+    → number r ≡ lowest_of (look_tests img f a) → Detection img f a a (number r) n k waited no_places no_quad
+detection_refused img f a r none e =
+    let some = positive r in
     let six : lowest_of (look_tests img f a) ≤ 6 = lowest_six img f (area_short img a) false in
-    let one : 1 ≤ lowest_of (look_tests img f a) = pos_of_ne-zero (λ z. ne (e ∙ z)) in
+    let one : 1 ≤ lowest_of (look_tests img f a) = subst (λ z. 1 ≤ z) e some in
     record {
-      number = number;
-      given = ev;
-      refusal = subst (λ z. Lowest (Undetected img f (look_tests img f a)) z) (sym e) (tests_lowest img f (look_tests img f a) (rising img f (area_short img a) false) one six);
-      untouched = λ x y. (refl, refl, refl, refl);
-      refused = λ x. absurd (omega arith);
-      accepted = λ x. absurd (ne x);
-      corners = λ x. absurd (ne x);
-      centers = λ x. absurd (ne x);
-      none = λ x. (eq, es);
+      refusal = subst (λ z. Lowest (Undetected img f (look_tests img f a)) z) (sym e)
+          (tests_lowest img f (look_tests img f a) (rising img f (area_short img a) false) one six);
+      untouched = λ x y. (refl, none.0, none.1.0, none.1.1);
+      refused = λ x. absurd (omega (arith, e));
+      accepted = λ x. absurd (omega arith);
+      corners = λ x. absurd (omega arith);
+      centers = λ x. absurd (omega arith);
+      none = λ x. (refl, refl);
     }
 
-pub detection_found : (img : Image) (f : FrameSpec) (a b : Areas) (number : ℕ) (v : Verdict) (n k waited : ℕ) (s : Places) (q : Quad)
-    → lowest_of (look_tests img f a) ≡ 0 → DetectionPastTests img f a b number n k waited s q → v ≡ verdict_of number → Detection img f a b v n k waited s q
-detection_found img f a b number v n k waited s q e D ev =
+pub detection_found : (img : Image) (f : FrameSpec) (a b : Areas) (number n k waited : ℕ) (s : Places) (q : Quad)
+    → lowest_of (look_tests img f a) ≡ 0 → DetectionPastTests img f a b number n k waited s q → Detection img f a b number n k waited s q
+detection_found img f a b number n k waited s q e D =
     record {
-      number = number;
-      given = ev;
       refusal = D.lowest (look_tests img f a) (none_tested (look_tests img f a) (rising img f (area_short img a) false) e);
       untouched = λ x y. absurd (let z = D.from_seven x in omega arith);
       refused = λ x. D.looked;

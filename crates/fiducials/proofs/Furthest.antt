@@ -3,7 +3,8 @@ use Prim.Native.Nat.{ℕ, zero, suc, ◌≤◌, ◌<◌}
 use native.Mathlib.Omega.{arith}
 use Rattle.frame.specs.declared.Point.{Point}
 use Rattle.base.specs.Loops.{turns}
-use Rattle.fiducials.specs.Corners.{Corner, pick_step, pick}
+use Rattle.fiducials.specs.declared.pick.Corner.{Corner}
+use Rattle.fiducials.specs.Corners.{pick_step, pick}
 use Rattle.fiducials.proofs.Picks.{Number, Best}
 use Rattle.fiducials.proofs.OneMore.{one_more}
 

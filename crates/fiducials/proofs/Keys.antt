@@ -5,8 +5,9 @@ use Rattle.frame.specs.declared.Point.{Point}
 use Rattle.float.specs.Floats.{◌⊘◌, f64}
 use Rattle.float.proofs.Numbers.{Finite, whole_small, whole_one, quotient_small, half_more, plus_number, minus_number}
 use Rattle.candidates.specs.Ring.{center}
-use Rattle.fiducials.specs.Corners.{Corner, key}
-use Rattle.fiducials.specs.Corners.Corner.{TL, TR, BR, BL}
+use Rattle.fiducials.specs.declared.pick.Corner.{Corner}
+use Rattle.fiducials.specs.Corners.{key}
+use Rattle.fiducials.specs.declared.pick.Corner.TheVariants.{TL, TR, BR, BL}
 use Rattle.fiducials.proofs.Picks.{Number}
 
 -- the centre of a patch with an area from 1 on, within 2 ^ 60

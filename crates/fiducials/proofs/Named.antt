@@ -18,7 +18,8 @@ use Rattle.sampling.specs.Luma.{luma_plane}
 use Rattle.mask.specs.Mask.{mask_plane}
 use Rattle.blobs.specs.Patches.{PatchOf, PatchList, patch_at}
 use Rattle.candidates.specs.Ring.{CandidateList, center_at, candidate_at, candidate_of, passes, center}
-use Rattle.fiducials.specs.Corners.{Corner, Passing, Outermost, further, pick}
+use Rattle.fiducials.specs.declared.pick.Corner.{Corner}
+use Rattle.fiducials.specs.Corners.{Passing, Outermost, further, pick}
 use Rattle.fiducials.proofs.Picks.{Number, Best, pick_below}
 use Rattle.fiducials.proofs.Furthest.{pick_best}
 use Rattle.base.proofs.Arith.{le_or_lt}

@@ -17,8 +17,9 @@ use Rattle.sampling.specs.Luma.{luma_plane}
 use Rattle.mask.specs.Mask.{mask_plane}
 use Rattle.blobs.specs.Patches.{PatchList, patch_at}
 use Rattle.candidates.specs.Ring.{CandidateList}
-use Rattle.fiducials.specs.Corners.{Corner, Outermost, pick, quad_of, shared_pick, one_way, too_small, corner_number}
-use Rattle.fiducials.specs.Corners.Corner.{TL, TR, BR, BL}
+use Rattle.fiducials.specs.declared.pick.Corner.{Corner}
+use Rattle.fiducials.specs.Corners.{Outermost, pick, picked_quad, shared_pick, one_way, too_small, corner_tests}
+use Rattle.fiducials.specs.declared.pick.Corner.TheVariants.{TL, TR, BR, BL}
 use Rattle.frame.specs.Refusals.{Check, Tested, lowest_of, Lowest}
 use Rattle.fiducials.specs.Promises.{Undetected, FourPass, Shared, MarkedBy}
 use Rattle.frame.specs.Refusals.Lowest.{accepted, refused}
@@ -124,8 +125,8 @@ module _ (img : Image) (f : FrameSpec) (w_held : img.w ≤ 4096) (h_held : img.h
   chosen_outermost : 0 < k → (d : Corner) → Outermost img f d (first_at (chosen d)) (patch_at l' (placed (chosen d)))
   chosen_outermost h d = picks_outermost img f w_held h_held patches candidates d h
 
-  pub marked_by : 0 < k → MarkedBy img f (quad_of center_of k)
-  unfolding quad_of
+  pub marked_by : 0 < k → MarkedBy img f (picked_quad center_of k)
+  unfolding picked_quad
   marked_by h =
       record {
         p = λ d. first_at (chosen d);
@@ -237,14 +238,14 @@ module _ (img : Image) (f : FrameSpec) (w_held : img.w ≤ 4096) (h_held : img.h
   -- ---- 7 to 9, and acceptance: where no test holds, the number worked out is the lowest
   module _ (tests : List Check) (no_test : (j : ℕ) → Tested j tests → ⊥) where
     -- the quadrilateral of the condition is that of the picks
-    the_quad : 0 < k → (q : Quad) → MarkedBy img f q → q ≡ quad_of center_of k
-    the_quad h q m = marked_unique img f q (quad_of center_of k) m (marked_by h)
+    the_quad : 0 < k → (q : Quad) → MarkedBy img f q → q ≡ picked_quad center_of k
+    the_quad h q m = marked_unique img f q (picked_quad center_of k) m (marked_by h)
 
     abbrev bad_quad : Quad → Bool
     bad_quad q = not (one_way q) || too_small img.w img.h q
 
-    pub corner_lowest : Lowest (Undetected img f tests) (corner_number img.w img.h center_of k)
-    unfolding corner_number
+    pub corner_lowest : Lowest (Undetected img f tests) (lowest_of (corner_tests img.w img.h center_of k))
+    unfolding corner_tests lowest_of
     corner_lowest = seven (ltb k 4) (ltb→lt k 4) (nltb→le k 4)
       where
         tests_only : (j : ℕ) → j < 7 → Undetected img f tests j → ⊥
@@ -265,22 +266,22 @@ module _ (img : Image) (f : FrameSpec) (w_held : img.w ≤ 4096) (h_held : img.h
         to_9 h s j a (shared e x) = T_not (shared_pick center_of k) s (share x.c x.d x.differ (one_patch (omega arith) x))
         to_9 h s j a (crooked e q x y) = omega arith
 
-        none : 4 ≤ k → T (not (shared_pick center_of k)) → T (not (bad_quad (quad_of center_of k))) → (j : ℕ) → Undetected img f tests j → ⊥
+        none : 4 ≤ k → T (not (shared_pick center_of k)) → T (not (bad_quad (picked_quad center_of k))) → (j : ℕ) → Undetected img f tests j → ⊥
         none h s b j (tested t) = no_test j t
         none h s b j (few e x) = x (four_pass h)
         none h s b j (shared e x) = T_not (shared_pick center_of k) s (share x.c x.d x.differ (one_patch (omega arith) x))
-        none h s b j (crooked e q x y) = T_not (bad_quad (quad_of center_of k)) b (subst (λ z. T (bad_quad z)) (the_quad (omega arith) q x) y)
+        none h s b j (crooked e q x y) = T_not (bad_quad (picked_quad center_of k)) b (subst (λ z. T (bad_quad z)) (the_quad (omega arith) q x) y)
 
-        nine : 4 ≤ k → T (not (shared_pick center_of k)) → (t : Bool) → (T t → T (bad_quad (quad_of center_of k))) → (T (not t)
-            → T (not (bad_quad (quad_of center_of k)))) → Lowest (Undetected img f tests) (cond t 9 0)
-        nine h s true y n = refused (crooked refl (quad_of center_of k) (marked_by (omega arith)) (y tt)) (to_9 h s)
+        nine : 4 ≤ k → T (not (shared_pick center_of k)) → (t : Bool) → (T t → T (bad_quad (picked_quad center_of k))) → (T (not t)
+            → T (not (bad_quad (picked_quad center_of k)))) → Lowest (Undetected img f tests) (cond t 9 0)
+        nine h s true y n = refused (crooked refl (picked_quad center_of k) (marked_by (omega arith)) (y tt)) (to_9 h s)
         nine h s false y n = accepted refl (none h s (n tt))
 
         eight : 4 ≤ k → (t : Bool) → (T t → T (shared_pick center_of k)) → (T (not t) → T (not (shared_pick center_of k)))
-            → Lowest (Undetected img f tests) (cond t 8 (cond (bad_quad (quad_of center_of k)) 9 0))
+            → Lowest (Undetected img f tests) (cond t 8 (cond (bad_quad (picked_quad center_of k)) 9 0))
         eight h true y n = refused (shared refl (two_of (omega arith) (y tt))) (to_8 h)
-        eight h false y n = nine h (n tt) (bad_quad (quad_of center_of k)) (λ t. t) (λ t. t)
+        eight h false y n = nine h (n tt) (bad_quad (picked_quad center_of k)) (λ t. t) (λ t. t)
 
-        seven : (t : Bool) → (T t → k < 4) → (T (not t) → 4 ≤ k) → Lowest (Undetected img f tests) (cond t 7 (cond (shared_pick center_of k) 8 (cond (bad_quad (quad_of center_of k)) 9 0)))
+        seven : (t : Bool) → (T t → k < 4) → (T (not t) → 4 ≤ k) → Lowest (Undetected img f tests) (cond t 7 (cond (shared_pick center_of k) 8 (cond (bad_quad (picked_quad center_of k)) 9 0)))
         seven true y n = refused (few refl (λ x. let a : 4 ≤ k = pass_four x in let b : k < 4 = y tt in omega arith)) tests_only
         seven false y n = eight (n tt) (shared_pick center_of k) (λ t. t) (λ t. t)

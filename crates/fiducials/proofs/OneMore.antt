@@ -7,7 +7,8 @@ use native.Mathlib.Omega.{arith}
 use lib.Dec.{T, T_not, not_T}
 use Rattle.frame.specs.declared.Point.{Point}
 use Rattle.base.proofs.Arith.{last_or}
-use Rattle.fiducials.specs.Corners.{Corner, further, pick_step}
+use Rattle.fiducials.specs.declared.pick.Corner.{Corner}
+use Rattle.fiducials.specs.Corners.{further, pick_step}
 use Rattle.fiducials.proofs.Picks.{Number, Best, further_trans, further_step, further_irrefl}
 
 module _ (c : Corner) (p : ℕ → Point) (N : ℕ) (number : (i : ℕ) → i < N → Number c (p i)) where

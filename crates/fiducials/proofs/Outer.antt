@@ -15,7 +15,8 @@ use Rattle.sampling.specs.Luma.{luma_plane}
 use Rattle.mask.specs.Mask.{mask_plane, mask_entry}
 use Rattle.blobs.specs.Patches.{PatchList, patch_at}
 use Rattle.candidates.specs.Ring.{CandidateList, center}
-use Rattle.fiducials.specs.Corners.{Corner, Passing, Outermost, pick}
+use Rattle.fiducials.specs.declared.pick.Corner.{Corner}
+use Rattle.fiducials.specs.Corners.{Passing, Outermost, pick}
 use Rattle.candidates.proofs.Held.{pixels_held, sums_held}
 use Rattle.candidates.proofs.Rules.{passes_area}
 use Rattle.fiducials.proofs.Picks.{Number}

@@ -6,8 +6,9 @@ use lib.Dec.{T}
 use lib.Ieee.{is_nan}
 use Rattle.frame.specs.declared.Point.{Point}
 use Rattle.base.specs.Loops.{turns}
-use Rattle.fiducials.specs.Corners.{Corner, key, further, pick_step, pick}
-use Rattle.fiducials.specs.Corners.Corner.{TL, TR, BR, BL}
+use Rattle.fiducials.specs.declared.pick.Corner.{Corner}
+use Rattle.fiducials.specs.Corners.{key, further, pick_step, pick}
+use Rattle.fiducials.specs.declared.pick.Corner.TheVariants.{TL, TR, BR, BL}
 use Rattle.float.proofs.Ordering.{lt_step, step_lt, lt_trans, lt_irrefl}
 
 -- `further` is a strict weak order on centres whose keys are numbers

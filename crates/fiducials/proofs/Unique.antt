@@ -13,8 +13,9 @@ use Rattle.blobs.specs.Patches.{PatchOf, PatchList, patch_at}
 use Rattle.blobs.specs.declared.Blob.{Blob}
 use Rattle.blobs.proofs.Unique.{patch_unique, list_firsts}
 use Rattle.candidates.specs.Ring.{center}
-use Rattle.fiducials.specs.Corners.{Corner, Outermost}
-use Rattle.fiducials.specs.Corners.Corner.{TL, TR, BR, BL}
+use Rattle.fiducials.specs.declared.pick.Corner.{Corner}
+use Rattle.fiducials.specs.Corners.{Outermost}
+use Rattle.fiducials.specs.declared.pick.Corner.TheVariants.{TL, TR, BR, BL}
 use Rattle.fiducials.specs.Promises.{MarkedBy, Cornered, place_of, centers_at}
 use Rattle.fiducials.specs.declared.Places.{Places}
 

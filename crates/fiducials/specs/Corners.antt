@@ -1,9 +1,10 @@
 -- Corners (requirements, 9). Assumes nothing.
-use Rattle.std.specs.Prelude.{ℕ, zero, suc, ◌*◌, ◌≤◌, Bool, cond, not, ◌&&◌, ◌||◌, T, eqb, ltb, Float}
+use Rattle.std.specs.Prelude.{ℕ, ◌*◌, ◌≤◌, Bool, cond, not, ◌&&◌, ◌||◌, List, [], ◌∷◌, T, eqb, ltb, Float}
 use Rattle.std.specs.Float.Ieee.{lt, eq}
 use Rattle.base.specs.Loops.{turns}
 use Rattle.float.specs.Floats.{◌⊕◌, ◌⊖◌, ◌⊗◌, f64, d64, abs_of, signum_of}
 use Rattle.frame.specs.Image.{Image}
+use Rattle.frame.specs.Refusals.{Check, check}
 use Rattle.sampling.specs.Luma.{luma_plane}
 use Rattle.mask.specs.Mask.{mask_plane}
 use Rattle.blobs.specs.Patches.{PatchOf, First}
@@ -11,17 +12,10 @@ use Rattle.candidates.specs.Ring.{passes, center}
 use Rattle.frame.specs.declared.FrameSpec.{FrameSpec}
 use Rattle.frame.specs.declared.Point.{Point}
 use Rattle.frame.specs.declared.Quad.{Quad}
+use Rattle.frame.specs.declared.refusals.Refusal.TheVariants.{FewCandidates, SharedCandidate, Crooked}
 use Rattle.blobs.specs.declared.Blob.{Blob}
-
-pub data Corner : Type 0 where
-  TL TR BR BL : Corner
-
--- the corners by number, in the order of a quadrilateral
-unfoldable pub corner_of : ℕ → Corner
-corner_of zero = TL
-corner_of (suc zero) = TR
-corner_of (suc (suc zero)) = BR
-corner_of (suc (suc (suc n))) = BL
+use Rattle.fiducials.specs.declared.pick.Corner.{Corner}
+use Rattle.fiducials.specs.declared.pick.Corner.TheVariants.{TL, TR, BR, BL}
 
 -- [9.1] TL has the least x+y, TR the greatest x−y, BR the greatest x+y, BL the least x−y, as f64 keys
 unfoldable pub key : Corner → Point → Float
@@ -88,8 +82,8 @@ too_small w h q = lt (quad_area q) (d64 4 100 ⊗ f64 (w * h))
 -- ---- what `detect_fiducials` works out from k candidates with the centres p 0, p 1, ..
 
 -- the centres of the picks
-unfoldable pub quad_of : (ℕ → Point) → ℕ → Quad
-quad_of p k = record { tl = p (pick TL p k); tr = p (pick TR p k); br = p (pick BR p k); bl = p (pick BL p k) }
+unfoldable pub picked_quad : (ℕ → Point) → ℕ → Quad
+picked_quad p k = record { tl = p (pick TL p k); tr = p (pick TR p k); br = p (pick BR p k); bl = p (pick BL p k) }
 
 -- two of the picks are one candidate
 unfoldable pub shared_pick : (ℕ → Point) → ℕ → Bool
@@ -97,7 +91,10 @@ shared_pick p k =
     eqb (pick TL p k) (pick TR p k) || eqb (pick TL p k) (pick BR p k) || eqb (pick TL p k) (pick BL p k)
     || eqb (pick TR p k) (pick BR p k) || eqb (pick TR p k) (pick BL p k) || eqb (pick BR p k) (pick BL p k)
 
--- the number that the candidates give: 7 to 9, or 0
-unfoldable pub corner_number : ℕ → ℕ → (ℕ → Point) → ℕ → ℕ
-corner_number w h p k =
-    cond (ltb k 4) 7 (cond (shared_pick p k) 8 (cond (not (one_way (quad_of p k)) || too_small w h (quad_of p k)) 9 0))
+-- the tests of the candidates: 7 to 9
+unfoldable pub corner_tests : ℕ → ℕ → (ℕ → Point) → ℕ → List Check
+corner_tests w h p k =
+    check FewCandidates (ltb k 4)
+    ∷ check SharedCandidate (shared_pick p k)
+    ∷ check Crooked (not (one_way (picked_quad p k)) || too_small w h (picked_quad p k))
+    ∷ []

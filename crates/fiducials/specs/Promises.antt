@@ -1,19 +1,19 @@
 -- What `detect_fiducials` does; refusals 7 to 9. Assumes nothing.
 use Rattle.std.specs.Prelude.{ℕ, ◌≤◌, ◌<◌, ◌≡◌, not, ◌||◌, List, T, get_or}
 use Rattle.frame.specs.Image.{Image}
-use Rattle.frame.specs.Refusals.{verdict_of, Lowest, Check, Tested}
+use Rattle.frame.specs.Refusals.{Lowest, Check, Tested}
 use Rattle.blobs.specs.Patches.{patch_at}
 use Rattle.candidates.specs.Ring.{center}
 use Rattle.candidates.specs.Areas.{Areas, look_tests}
 use Rattle.candidates.specs.Promises.{Looked}
 use Rattle.fiducials.specs.Answers.{no_quad, no_places}
-use Rattle.fiducials.specs.Corners.{Corner, Passing, Outermost, one_way, too_small}
+use Rattle.fiducials.specs.Corners.{Passing, Outermost, one_way, too_small}
 use Rattle.frame.specs.declared.FrameSpec.{FrameSpec}
 use Rattle.frame.specs.declared.Quad.{Quad}
-use Rattle.frame.specs.declared.Verdict.{Verdict}
 use Rattle.blobs.specs.declared.Blob.{Blob}
 use Rattle.fiducials.specs.declared.Places.{Places}
-use Rattle.fiducials.specs.Corners.Corner.{TL, TR, BR, BL}
+use Rattle.fiducials.specs.declared.pick.Corner.{Corner}
+use Rattle.fiducials.specs.declared.pick.Corner.TheVariants.{TL, TR, BR, BL}
 
 -- ---- what the picture shows
 
@@ -104,11 +104,9 @@ pub record DetectionPastTests (img : Image) (f : FrameSpec) (a b : Areas) (numbe
   -- what stands for centres and places where it is refused
   pub none : 1 ≤ number → (q ≡ no_quad) × (s ≡ no_places)
 
--- ---- `detect_fiducials`: the centres q of the four patches at the places s
-pub record Detection (img : Image) (f : FrameSpec) (a b : Areas) (v : Verdict) (n k waited : ℕ) (s : Places)
+-- ---- `detect_fiducials`: its refusal's number, or 0 with the centres q of the four patches at the places s
+pub record Detection (img : Image) (f : FrameSpec) (a b : Areas) (number n k waited : ℕ) (s : Places)
     (q : Quad) : Type 0 where
-  pub number : ℕ
-  pub given : v ≡ verdict_of number
   pub refusal : Lowest (Undetected img f (look_tests img f a)) number
   -- [2.17] 1 to 6 touch no memory
   pub untouched : 1 ≤ number → number ≤ 6 → (b ≡ a) × (n ≡ 0) × (k ≡ 0) × (waited ≡ 0)

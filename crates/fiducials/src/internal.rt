@@ -2,18 +2,18 @@
 // crates above.
 ghost use Rattle.std.specs.Prelude.{◌≡◌, ◌||◌, ◌+◌, ◌*◌, ◌≤◌, ◌<◌, eqb, length, get_or};
 ghost use Rattle.frame.specs.Image.{image};
-ghost use Rattle.frame.specs.Refusals.{verdict_of};
+ghost use Rattle.frame.specs.Refusals.{number_of};
 ghost use Rattle.candidates.specs.Areas.{areas};
 ghost use Rattle.candidates.specs.Bounds.{Ready};
 ghost use Rattle.candidates.specs.Ring.{center_at};
-ghost use Rattle.fiducials.specs.Answers.{quad_at, places_at, no_quad, no_places, corners_of};
+ghost use Rattle.fiducials.specs.Answers.{quad_at, places_at, corners_of, places_of, quad_of};
 ghost use Rattle.fiducials.specs.Promises.{DetectionPastTests};
 
-use super::pick::pick;
+use super::pick::{Corner, pick};
 pub use super::quadrilateral::{one_way, too_small};
-use super::{Corners, Found, Places};
+use super::{Corners, Detected, Places};
 use candidates::internal::{center_at, look};
-use frame::{FrameSpec, Point, Quad, Verdict};
+use frame::{FrameSpec, Quad, Refusal};
 
 // ---- the corners among k candidates
 
@@ -29,15 +29,11 @@ fn quad_at(candidates: &[f64], tl: usize, tr: usize, br: usize, bl: usize) -> Qu
         × (4 * br + 1 < length candidates.now) × (4 * bl + 1 < length candidates.now) }
     ensures { result ≡ quad_at (center_at candidates.now) tl tr br bl }
 {
-    let a = center_at(candidates, tl);
-    let b = center_at(candidates, tr);
-    let c = center_at(candidates, br);
-    let d = center_at(candidates, bl);
     Quad {
-        tl: a,
-        tr: b,
-        br: c,
-        bl: d,
+        tl: center_at(candidates, tl),
+        tr: center_at(candidates, tr),
+        br: center_at(candidates, br),
+        bl: center_at(candidates, bl),
     }
 }
 
@@ -61,65 +57,32 @@ fn places_at(blob_index: &[u32], tl: usize, tr: usize, br: usize, bl: usize) -> 
     }
 }
 
-pub fn no_quad() -> Quad
-    ensures { result ≡ no_quad }
-{
-    let p = Point { x: 0.0, y: 0.0 };
-    Quad {
-        tl: p,
-        tr: p,
-        br: p,
-        bl: p,
-    }
-}
-
-pub fn no_places() -> Places
-    ensures { result ≡ no_places }
-{
-    Places {
-        tl: 0,
-        tr: 0,
-        br: 0,
-        bl: 0,
-    }
-}
-
-fn refusal(number: u32) -> Corners
-    ensures { result ≡ record { number = number; quad = no_quad; places = no_places } }
-{
-    let quad = no_quad();
-    let places = no_places();
-    Corners {
-        number: number,
-        quad: quad,
-        places: places,
-    }
-}
-
-pub fn corners(candidates: &[f64], blob_index: &[u32], w: usize, h: usize, k: usize) -> Corners
+pub fn corners(
+    candidates: &[f64],
+    blob_index: &[u32],
+    w: usize,
+    h: usize,
+    k: usize,
+) -> Result<Corners, Refusal>
     requires { (w ≤ 4096) × (h ≤ 4096) × (4 * k ≤ length candidates.now) × (k ≤ length blob_index.now) }
     ensures { result ≡ corners_of candidates.now blob_index.now w h k }
 {
     if k < 4 {
-        return refusal(7);
+        return Err(Refusal::FewCandidates);
     }
-    let tl = pick(candidates, k, 0);
-    let tr = pick(candidates, k, 1);
-    let br = pick(candidates, k, 2);
-    let bl = pick(candidates, k, 3);
+    let tl = pick(candidates, k, Corner::TL);
+    let tr = pick(candidates, k, Corner::TR);
+    let br = pick(candidates, k, Corner::BR);
+    let bl = pick(candidates, k, Corner::BL);
     if shared(tl, tr, br, bl) {
-        return refusal(8);
+        return Err(Refusal::SharedCandidate);
     }
     let quad = quad_at(candidates, tl, tr, br, bl);
     if !one_way(quad) | too_small(w, h, quad) {
-        return refusal(9);
+        return Err(Refusal::Crooked);
     }
     let places = places_at(blob_index, tl, tr, br, bl);
-    Corners {
-        number: 0,
-        quad: quad,
-        places: places,
-    }
+    Ok(Corners { quad, places })
 }
 
 // ---- the whole detection
@@ -137,7 +100,7 @@ pub fn detect(
     patches: &mut [u64],
     candidates: &mut [f64],
     blob_index: &mut [u32],
-) -> Found
+) -> Detected
     requires { Ready (image w h capture.now) frame
         (areas luma.old integral.old mask.old seen.old waiting.old patches.old candidates.old
         blob_index.old) }
@@ -146,30 +109,12 @@ pub fn detect(
         waiting.old patches.old candidates.old blob_index.old)
         (areas luma.new integral.new mask.new seen.new waiting.new
         patches.new candidates.new blob_index.new)
-        result.number result.patches result.candidates result.waited result.places result.quad }
+        (number_of result.corners) result.counts.patches result.counts.candidates result.counts.waited
+        (places_of result.corners) (quad_of result.corners) }
 {
-    let c = look(
+    let counts = look(
         capture, w, h, frame, luma, integral, mask, seen, waiting, patches, candidates, blob_index,
     );
-    let k = c.candidates;
-    let f = corners(candidates, blob_index, w, h, k);
-    let quad = f.quad;
-    let places = f.places;
-    Found {
-        number: f.number,
-        quad: quad,
-        places: places,
-        patches: c.patches,
-        candidates: k,
-        waited: c.waited,
-    }
-}
-
-pub fn verdict_of(number: u32) -> Verdict
-    ensures { result ≡ verdict_of number }
-{
-    if number == 0 {
-        return Verdict::Accepted;
-    }
-    Verdict::Refused(number)
+    let corners = corners(candidates, blob_index, w, h, counts.candidates);
+    Detected { corners, counts }
 }

@@ -2,20 +2,22 @@
 #![tactic(auto)]
 
 ghost use Rattle.frame.specs.Image.{image};
+ghost use Rattle.frame.specs.Refusals.{number_of};
 ghost use Rattle.candidates.specs.Areas.{areas};
+ghost use Rattle.fiducials.specs.Answers.{places_of, quad_of};
 ghost use Rattle.fiducials.specs.Promises.{Detection};
 
-use candidates::Lengths;
 use candidates::internal::refused;
-use frame::{FrameSpec, Quad, Verdict};
-use internal::{detect, no_places, no_quad, verdict_of};
+use candidates::{Counts, Lengths};
+use frame::{FrameSpec, Quad, Refusal};
+use internal::detect;
 
 pub mod internal;
 mod pick;
 mod quadrilateral;
 
 // Places in the patch list.
-#[derive(Clone, Copy)]
+#[derive(Clone, Copy, Default)]
 pub struct Places {
     pub tl: usize,
     pub tr: usize,
@@ -23,35 +25,18 @@ pub struct Places {
     pub bl: usize,
 }
 
-// What the candidates give: 7, 8 or 9, or 0 with the corners' centres and places.
+// The four corners: their patches' centres and places.
 #[derive(Clone, Copy)]
 pub struct Corners {
-    pub number: u32,
     pub quad: Quad,
     pub places: Places,
 }
 
-// The same, with how many records the lists hold and the most pixels that waited.
-#[derive(Clone, Copy)]
-pub struct Found {
-    pub number: u32,
-    pub quad: Quad,
-    pub places: Places,
-    pub patches: usize,
-    pub candidates: usize,
-    pub waited: usize,
-}
-
-// The answer of `detect_fiducials`: centres and places are 0 where it is refused, and the three
-// numbers where it is refused by 1 to 6.
+// The corners, and how much the lists hold: the counts are 0 where 1 to 6 refuse.
 #[derive(Clone, Copy)]
 pub struct Detected {
-    pub verdict: Verdict,
-    pub quad: Quad,
-    pub places: Places,
-    pub patches: usize,
-    pub candidates: usize,
-    pub waited: usize,
+    pub corners: Result<Corners, Refusal>,
+    pub counts: Counts,
 }
 
 // Locates the four fiducials, in the order TL, TR, BR, BL.
@@ -74,44 +59,19 @@ pub fn detect_fiducials(
         waiting.old patches.old candidates.old blob_index.old)
         (areas luma.new integral.new mask.new seen.new waiting.new
         patches.new candidates.new blob_index.new)
-        result.verdict result.patches result.candidates result.waited result.places result.quad }
+        (number_of result.corners) result.counts.patches result.counts.candidates result.counts.waited
+        (places_of result.corners) (quad_of result.corners) }
 {
-    let lengths = Lengths {
-        luma: luma.len(),
-        integral: integral.len(),
-        mask: mask.len(),
-        seen: seen.len(),
-        waiting: waiting.len(),
-        patches: patches.len(),
-        candidates: candidates.len(),
-        blob_index: blob_index.len(),
-    };
-    let number = refused(capture, w, h, frame, lengths);
-    if number != 0 {
-        let verdict = Verdict::Refused(number);
-        let quad = no_quad();
-        let places = no_places();
+    let lengths = Lengths::of(
+        luma, integral, mask, seen, waiting, patches, candidates, blob_index,
+    );
+    if let Err(refusal) = refused(capture, w, h, frame, lengths) {
         return Detected {
-            verdict: verdict,
-            quad: quad,
-            places: places,
-            patches: 0,
-            candidates: 0,
-            waited: 0,
+            corners: Err(refusal),
+            counts: Counts::default(),
         };
     }
-    let f = detect(
+    detect(
         capture, w, h, frame, luma, integral, mask, seen, waiting, patches, candidates, blob_index,
-    );
-    let verdict = verdict_of(f.number);
-    let quad = f.quad;
-    let places = f.places;
-    Detected {
-        verdict: verdict,
-        quad: quad,
-        places: places,
-        patches: f.patches,
-        candidates: f.candidates,
-        waited: f.waited,
-    }
+    )
 }

@@ -1,6 +1,6 @@
 // The quadrilateral of four corners: which way it turns, and its area.
 ghost use Rattle.std.specs.Prelude.{◌≡◌, ◌≤◌};
-ghost use Rattle.fiducials.specs.Corners.{cross, orientation, one_way, quad_area, too_small};
+ghost use Rattle.fiducials.specs.Corners.{cross, orientation, one_way, term, quad_area, too_small};
 
 use float::{abs, signum};
 use frame::{Point, Quad};
@@ -21,29 +21,25 @@ fn orientation(a: Point, b: Point, c: Point) -> f64
 pub fn one_way(q: Quad) -> bool
     ensures { result ≡ one_way q }
 {
-    let tl = q.tl;
-    let tr = q.tr;
-    let br = q.br;
-    let bl = q.bl;
-    let s = orientation(tl, tr, br);
+    let s = orientation(q.tl, q.tr, q.br);
     (s == s)
-        & (orientation(tr, br, bl) == s)
-        & (orientation(br, bl, tl) == s)
-        & (orientation(bl, tl, tr) == s)
+        & (orientation(q.tr, q.br, q.bl) == s)
+        & (orientation(q.br, q.bl, q.tl) == s)
+        & (orientation(q.bl, q.tl, q.tr) == s)
+}
+
+// One side's term of the area.
+fn term(a: Point, b: Point) -> f64
+    ensures { result ≡ term a b }
+{
+    a.x * b.y - b.x * a.y
 }
 
 fn area(q: Quad) -> f64
     ensures { result ≡ quad_area q }
 {
-    let a = q.tl;
-    let b = q.tr;
-    let c = q.br;
-    let d = q.bl;
-    let ab = a.x * b.y - b.x * a.y;
-    let bc = b.x * c.y - c.x * b.y;
-    let cd = c.x * d.y - d.x * c.y;
-    let da = d.x * a.y - a.x * d.y;
-    0.5 * abs(0.0 + ab + bc + cd + da)
+    let sum = 0.0 + term(q.tl, q.tr) + term(q.tr, q.br) + term(q.br, q.bl) + term(q.bl, q.tl);
+    0.5 * abs(sum)
 }
 
 pub fn too_small(w: usize, h: usize, q: Quad) -> bool

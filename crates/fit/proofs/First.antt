@@ -22,7 +22,7 @@ use Rattle.fit.specs.Grid.{across, down, tap_outside, Walk, Going, Ended, tap_st
 use Rattle.fit.specs.Promises.{sampled_cells}
 use Rattle.fit.specs.First.{Sampled, HasTapOutside, FirstOutside, OutsideIs, OneFirst, NumberTells, SomeOutside, NoneOutside}
 use Rattle.fit.proofs.CellNumber.{number_of}
-use Rattle.fit.proofs.Walks.{tap_in, tap_out, cell_stays, row_stays, grade_out, grade_in_lem}
+use Rattle.fit.proofs.Walks.{tap_in, tap_out, cell_stays, row_stays, grade_out, grade_in}
 
 going_not_ended : {cell : ℕ} → Going ≡ Ended cell → ⊥
 going_not_ended {cell} e = let z : ◌≡◌ {A = ℕ} 0 1 = cc in omega arith
@@ -267,4 +267,4 @@ pub none_outside : NoneOutside
 unfolding sampled_cells
 none_outside img f fit none =
     let e : Going ≡ walked img f fit = sym (walk_goes img f fit (λ x y hx hy o. none (3 * x) (3 * y) (sampled_at f x y hx hy) o)) in
-    (λ h. sym (grade_in_lem img f fit e refl (pick_yes _ _ _ (lt-ltb _ _ h))), λ h. sym (grade_in_lem img f fit e refl (pick_no _ _ _ (le-ltb _ _ h))))
+    (λ h. sym (pick_yes _ _ _ (lt-ltb _ _ h) ∙ grade_in img f fit e), λ h. sym (pick_no _ _ _ (le-ltb _ _ h) ∙ grade_in img f fit e))

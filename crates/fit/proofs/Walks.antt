@@ -1,35 +1,35 @@
 -- Laws of the walk over taps, columns and rows, and of the sums. Assumes nothing.
 use mathlib.Core.Path.{◌≡◌, refl, sym, ap, ◌∙◌}
-use mathlib.Core.Bool.{Bool, true, false, cond}
+use mathlib.Core.Bool.{Bool, true, false}
 use mathlib.Core.List.{List}
+use Rattle.std.specs.Prelude.{Option, Some, None}
 use Prim.Native.Nat.{ℕ, ◌+◌, ◌*◌, ◌/◌, ◌≤◌, ◌<◌}
 use native.Mathlib.Omega.{arith}
-use lib.Dec.{ltb, lit≤}
 use lib.Ieee.{Float, nan}
-use lib.ListN.{get_or, length, set, replicate}
+use lib.ListN.{get_or, length, set}
 use Rattle.base.specs.Loops.{turns, filled, by_row}
 use Rattle.base.proofs.Turns.{turns_leave, turns_step, turns_keep, turns_end, turns_cong}
-use Rattle.base.proofs.Plane.{filled_at, filled_step, filled_end}
+use Rattle.base.proofs.Plane.{length_filled, filled_at, filled_step, filled_end}
 use Rattle.base.proofs.Pick.{pick_yes, pick_no}
 use Rattle.float.specs.Floats.{◌⊕◌, ◌⊖◌, ◌⊘◌, f64, squared, add_at, sum_of}
 use Rattle.frame.specs.Image.{Image, outside}
 use Rattle.frame.specs.Frame.{cols, rows}
 use Rattle.frame.specs.Limits.{FrameHeld}
-use native.Mathlib.Nat.{le_trans, div-le_self, mul_comm}
-use Rattle.base.proofs.Arith.{row_in}
+use native.Mathlib.Nat.{le_trans, div-le_self}
 use Rattle.frame.specs.declared.Point.{Point}
 use Rattle.sampling.specs.Reading.{inside, sample_at}
 use Rattle.sampling.specs.declared.Sample.{Sample}
 use Rattle.frame.specs.declared.FrameSpec.{FrameSpec}
 use Rattle.fit.specs.declared.GeometryFit.{GeometryFit}
-use Rattle.fit.specs.declared.Grade.{Grade}
-use Rattle.fit.specs.declared.Grade.TheVariants.{Score, Outside, TooFew}
+use Rattle.fit.proofs.CellNumber.{number_of}
+use Rattle.fit.specs.declared.Grade.TheVariants.{Outside}
 use Rattle.fit.specs.Grid.{across, down, tap_place, luma64, tap_outside, Walk, Going, Ended, tap_step, cell_step, row_step, walked, listed, mean, variance, tap}
-use Rattle.fit.specs.Grid.{cell_tap, cell_mean, cell_variance, fisher, fisher_of, grade_from, grade_of}
+use Rattle.fit.specs.Grid.{cell_tap, cell_mean, cell_variance, fisher, fisher_of, grade_from, grade_inside, grade_of}
 
--- the walk that the loops' variables stand for
-abbrev pub walk_of : Bool → ℕ → Walk
-walk_of found cell = cond found (Ended cell) Going
+-- the walk that the loops' variable stands for
+abbrev pub walk_of : Option ℕ → Walk
+walk_of None = Going
+walk_of (Some cell) = Ended cell
 
 module _ (img : Image) (f : FrameSpec) (fit : GeometryFit) where
   -- what ended stays
@@ -47,7 +47,7 @@ module _ (img : Image) (f : FrameSpec) (fit : GeometryFit) where
   pub tap_in : (y x i : ℕ) → tap_outside img f fit (3 * x) (3 * y) i ≡ false → Going ≡ tap_step img f fit y x i Going
   tap_in y x i e = pick_no _ _ _ e
 
-  pub tap_out : (y x i : ℕ) → tap_outside img f fit (3 * x) (3 * y) i ≡ true → tap_step img f fit y x i Going ≡ Ended (3 * y * cols f + 3 * x)
+  pub tap_out : (y x i : ℕ) → tap_outside img f fit (3 * x) (3 * y) i ≡ true → tap_step img f fit y x i Going ≡ Ended (number_of f x y)
   tap_out y x i e = sym (pick_yes _ _ _ e)
 
   -- the first tap outside ends the three walks
@@ -60,10 +60,10 @@ module _ (img : Image) (f : FrameSpec) (fit : GeometryFit) where
       y + 1 ≤ down f →
       x + 1 ≤ across f →
       i + 1 ≤ 9 →
-      walked img f fit ≡ Ended (3 * y * cols f + 3 * x)
+      walked img f fit ≡ Ended (number_of f x y)
   unfolding walked row_step cell_step
   leaves y x i ey ex ei out hy hx hi =
-      let cell = 3 * y * cols f + 3 * x in
+      let cell = number_of f x y in
       let taps : cell_step img f fit y x Going ≡ Ended cell =
       turns_leave _ _ _ (λ k. refl) i 9 ei (tap_out y x i out) hi in
       let cells : row_step img f fit y Going ≡ Ended cell =
@@ -73,19 +73,11 @@ module _ (img : Image) (f : FrameSpec) (fit : GeometryFit) where
   -- the grade of a walk that ended, and of one that did not
   pub grade_out : {cell : ℕ} → Ended cell ≡ walked img f fit → Outside cell ≡ grade_of img f fit
   unfolding grade_of
-  grade_out e = ap (λ w. grade_from w (cond (ltb (down f * across f) 16) TooFew (Score (fisher img f fit (down f * across f))))) e
+  grade_out e = ap (λ w. grade_from w (grade_inside (down f * across f) (fisher img f fit (down f * across f)))) e
 
-  pub grade_in_lem : {n : ℕ} {g : Grade} → Going ≡ walked img f fit → n ≡ down f * across f → g ≡ cond (ltb n 16) TooFew (Score (fisher img f fit n)) → g ≡ grade_of img f fit
+  pub grade_in : Going ≡ walked img f fit → grade_inside (down f * across f) (fisher img f fit (down f * across f)) ≡ grade_of img f fit
   unfolding grade_of
-  grade_in_lem e p q =
-      q ∙ ap (λ n. cond (ltb n 16) TooFew (Score (fisher img f fit n))) p
-      ∙ ap (λ w. grade_from w (cond (ltb (down f * across f) 16) TooFew (Score (fisher img f fit (down f * across f))))) e
-
-  -- what a whole walk leaves
-  pub record Sums (l : List Float) (n : ℕ) (m : List Float) (w : Float) : Type 0 where
-    pub count : n ≡ down f * across f
-    pub means : m ≡ filled (by_row (across f) (cell_mean img f fit)) n l
-    pub within : w ≡ sum_of (by_row (across f) (cell_variance img f fit)) n
+  grade_in e = ap (λ w. grade_from w (grade_inside (down f * across f) (fisher img f fit (down f * across f)))) e
 
 -- equal numbers have equal sums, means and variances
 sum_same : (v u : ℕ → Float) (n : ℕ) → ((k : ℕ) → k < n → v k ≡ u k) → sum_of v n ≡ sum_of u n
@@ -116,6 +108,22 @@ module _ (v : ℕ → Float) (n : ℕ) (a l : List Float) (e : a ≡ filled v n 
   fisher_filled w =
       ap (λ m. variance (listed a) n m ⊘ (w ⊘ f64 n ⊕ f64 1)) mean_filled
       ∙ ap (λ z. z ⊘ (w ⊘ f64 n ⊕ f64 1)) (variance_filled (mean v n))
+
+-- what a whole walk leaves, and its grade
+module _ (img : Image) (f : FrameSpec) (fit : GeometryFit) where
+  pub record Whole (l m : List Float) (w : Float) : Type 0 where
+    pub going : Going ≡ walked img f fit
+    pub means : m ≡ filled (by_row (across f) (cell_mean img f fit)) (down f * across f) l
+    pub within : w ≡ sum_of (by_row (across f) (cell_variance img f fit)) (down f * across f)
+
+  pub grade_whole : {l m : List Float} {w : Float} → Whole l m w → length m ≡ down f * across f → down f * across f ≤ length l
+      → grade_inside (length m) (fisher_of (listed m) w (length m)) ≡ grade_of img f fit
+  unfolding fisher
+  grade_whole {l} {m} {w} k e h =
+      let v = by_row (across f) (cell_mean img f fit) in
+      ap (λ n. grade_inside n (fisher_of (listed m) w n)) e
+      ∙ ap (grade_inside (down f * across f)) (fisher_filled v (down f * across f) m l k.means h w ∙ ap (λ z. fisher_of v z (down f * across f)) k.within)
+      ∙ grade_in img f fit k.going
 
 -- one more entry, and one more term
 pub filled_put : (v : ℕ → Float) (l : List Float) (j n m : ℕ) (x : Float) {b : List Float} → b ≡ filled v j l → n ≡ j → x ≡ v j → j + 1 ≡ m → set b n x ≡ filled v m l
@@ -152,18 +160,17 @@ pub sample_inside : (img : Image) (p : Point) {s : Sample} → s ≡ sample_at i
 unfolding sample_at
 sample_inside img p e = ap (λ (z : Sample). z.inside) e
 
-module _ (img : Image) (f : FrameSpec) (fit : GeometryFit) (x y : ℕ) (a l : List Float) (e : a ≡ filled (cell_tap img f fit x y) 9 l) (h : 9 ≤ length l) where
-  pub cell_mean_is : {m : Float} → m ≡ mean (listed a) 9 → m ≡ cell_mean img f fit x y
+module _ (img : Image) (f : FrameSpec) (fit : GeometryFit) (x y : ℕ) (a l : List Float) (e : a ≡ filled (cell_tap img f fit x y) 9 l) (h : length l ≡ 9) where
+  nine : length a ≡ 9
+  nine = ap length e ∙ length_filled (cell_tap img f fit x y) l 9 ∙ h
+
+  pub cell_mean_is : {m : Float} → m ≡ mean (listed a) (length a) → m ≡ cell_mean img f fit x y
   unfolding cell_mean
-  cell_mean_is d = d ∙ mean_filled (cell_tap img f fit x y) 9 a l e h
+  cell_mean_is d = d ∙ ap (mean (listed a)) nine ∙ mean_filled (cell_tap img f fit x y) 9 a l e (omega arith)
 
-  pub cell_variance_is : {m v : Float} → v ≡ variance (listed a) 9 m → m ≡ cell_mean img f fit x y → v ≡ cell_variance img f fit x y
+  pub cell_variance_is : {m v : Float} → v ≡ variance (listed a) (length a) m → m ≡ cell_mean img f fit x y → v ≡ cell_variance img f fit x y
   unfolding cell_variance
-  cell_variance_is {m} d g = d ∙ ap (variance (listed a) 9) g ∙ variance_filled (cell_tap img f fit x y) 9 a l e h (cell_mean img f fit x y)
-
--- the place of a cell's mean
-pub mean_in : (x y a d n m : ℕ) → x < a → y < d → n ≡ y * a + x → m ≡ d * a → n < m
-mean_in x y a d n m hx hy e l = omega (arith, row_in x y a d hx hy, mul_comm a d)
-
-pub nine : (z : Float) → 9 ≤ length (replicate 9 z)
-nine z = lit≤ tt
+  cell_variance_is {m} d g =
+      d ∙ ap (λ n. variance (listed a) n m) nine
+      ∙ ap (variance (listed a) 9) g
+      ∙ variance_filled (cell_tap img f fit x y) 9 a l e (omega arith) (cell_mean img f fit x y)

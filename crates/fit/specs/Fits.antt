@@ -1,12 +1,13 @@
 -- The fit for a lens term (requirements, 12.2: a trial's k, lens and homography). Assumes nothing.
-use Rattle.std.specs.Prelude.{ℕ, Bool, cond, Float}
+use Rattle.std.specs.Prelude.{ℕ, Bool, cond, Float, Ok, Err}
 use Rattle.float.specs.Floats.{f64}
 use Rattle.markers.specs.Layout.{marker_centers}
 use Rattle.homography.specs.Equations.{identity, has_homography, homography}
 use Rattle.radial.specs.Lens.{radial, undistort}
 use Rattle.frame.specs.declared.FrameSpec.{FrameSpec}
 use Rattle.frame.specs.declared.Quad.{Quad}
-use Rattle.frame.specs.declared.Verdict.TheVariants.{Accepted, Refused}
+use Rattle.frame.specs.declared.refusals.Refusal.{Refusal}
+use Rattle.frame.specs.declared.refusals.Refusal.TheVariants.{NoHomography}
 use Rattle.radial.specs.declared.Radial.{Radial}
 use Rattle.fit.specs.declared.GeometryFit.{GeometryFit}
 use Rattle.fit.specs.declared.Fitted.{Fitted}
@@ -33,10 +34,11 @@ fit_for w h f q k =
 abbrev pub no_fit : GeometryFit
 no_fit = record { h = identity; radial = record { k = f64 0; cx = f64 0; cy = f64 0; norm = f64 1 } }
 
--- refused with a number: no fit
-unfoldable pub unfitted : ℕ → Fitted
-unfitted n = record { verdict = Refused n; fit = no_fit }
+-- refused: no fit
+unfoldable pub unfitted : Refusal → Fitted
+unfitted r = record { verdict = Err r; fit = no_fit }
 
 -- `fit_for` past its tests
 unfoldable pub fitted_for : ℕ → ℕ → FrameSpec → Quad → Float → Fitted
-fitted_for w h f q k = cond (fits_for w h f q k) (record { verdict = Accepted; fit = fit_for w h f q k }) (unfitted 10)
+fitted_for w h f q k =
+    cond (fits_for w h f q k) (record { verdict = Ok tt; fit = fit_for w h f q k }) (unfitted NoHomography)

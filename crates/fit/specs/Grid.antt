@@ -110,10 +110,14 @@ abbrev pub grade_from : Walk → Grade → Grade
 grade_from (Ended cell) g = Outside cell
 grade_from Going g = g
 
+-- [11.3] .. of n cells without a tap outside
+abbrev pub grade_inside : ℕ → Float → Grade
+grade_inside n score = cond (ltb n 16) TooFew (Score score)
+
 unfoldable pub grade_of : Image → FrameSpec → GeometryFit → Grade
 grade_of img f fit =
     let n = down f * across f in
-    grade_from (walked img f fit) (cond (ltb n 16) TooFew (Score (fisher img f fit n)))
+    grade_from (walked img f fit) (grade_inside n (fisher img f fit n))
 
 -- [11.5] the Rust's −∞ stands for outside and too few
 unfoldable pub score_of : Grade → Float

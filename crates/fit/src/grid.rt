@@ -1,12 +1,12 @@
 // A cell's taps, and means and variances of floats.
-ghost use Rattle.std.specs.Prelude.{◌≡◌, true, ◌≤◌, ◌<◌, ◌^◌, length};
+ghost use Rattle.std.specs.Prelude.{◌≡◌, ◌≤◌, ◌^◌, length};
 ghost use Rattle.frame.specs.Image.{outside};
 ghost use Rattle.frame.specs.Limits.{FrameHeld};
 ghost use Rattle.sampling.specs.Reading as reading;
 ghost use Rattle.fit.specs.Grid as spec;
 ghost use Rattle.fit.specs.Taps as taps;
 
-use crate::GeometryFit;
+use crate::{GeometryFit, Grade};
 use frame::{FrameSpec, Point, Rgb};
 
 // How many columns of cells are sampled: every third.
@@ -29,13 +29,11 @@ pub fn down(frame: FrameSpec) -> usize
 fn tap_share(n: usize) -> f64
     ensures { result ≡ spec.tap_share n }
 {
-    if n == 0 {
-        return 0.3;
+    match n {
+        0 => 0.3,
+        1 => 0.5,
+        _ => 0.7,
     }
-    if n == 1 {
-        return 0.5;
-    }
-    0.7
 }
 
 // Where the fit puts tap i of the cell in column c and row r.
@@ -44,13 +42,10 @@ pub fn tap_place(frame: FrameSpec, fit: GeometryFit, c: usize, r: usize, i: usiz
     ensures { result ≡ spec.tap_place frame fit c r i }
 {
     let origin = frame::internal::cell_origin(frame, c, r);
-    let x = origin.x;
-    let y = origin.y;
-    let size = frame.cell;
-    let cell = size as f64;
+    let cell = frame.cell as f64;
     let p = Point {
-        x: x as f64 + tap_share(i % 3) * cell,
-        y: y as f64 + tap_share(i / 3) * cell,
+        x: origin.x as f64 + tap_share(i % 3) * cell,
+        y: origin.y as f64 + tap_share(i / 3) * cell,
     };
     fit.map(p)
 }
@@ -72,13 +67,11 @@ pub fn tap_outside(w: usize, h: usize, p: Point, inside: bool) -> bool
     if inside {
         return false;
     }
-    let x = p.x;
-    let y = p.y;
-    if x != x {
-        return past(h, y);
+    if p.x.is_nan() {
+        return past(h, p.y);
     }
-    if y != y {
-        return past(w, x);
+    if p.y.is_nan() {
+        return past(w, p.x);
     }
     true
 }
@@ -90,51 +83,48 @@ pub fn luma(p: Rgb) -> f64
     0.299 * (p.r as f64) + 0.587 * (p.g as f64) + 0.114 * (p.b as f64)
 }
 
-// The mean of the first n.
-pub fn mean(a: &[f64], n: usize) -> f64
-    requires { (n ≤ length a.now) × (n ≤ 2 ^ 53) }
-    ensures { result ≡ spec.mean (spec.listed a.now) n }
+pub fn mean(a: &[f64]) -> f64
+    requires { length a.now ≤ 2 ^ 53 }
+    ensures { result ≡ spec.mean (spec.listed a.now) (length a.now) }
 {
     let mut sum = 0.0;
-    for i in 0..n {
-        sum = sum + a[i];
+    for x in a {
+        sum += *x;
     }
-    sum / (n as f64)
+    sum / (a.len() as f64)
 }
 
 // The mean of the squares of their distances from m.
-pub fn variance(a: &[f64], n: usize, m: f64) -> f64
-    requires { (n ≤ length a.now) × (n ≤ 2 ^ 53) }
-    ensures { result ≡ spec.variance (spec.listed a.now) n m }
+pub fn variance(a: &[f64], m: f64) -> f64
+    requires { length a.now ≤ 2 ^ 53 }
+    ensures { result ≡ spec.variance (spec.listed a.now) (length a.now) m }
 {
     let mut sum = 0.0;
-    for i in 0..n {
-        let d = a[i] - m;
-        sum = sum + d * d;
+    for x in a {
+        let d = *x - m;
+        sum += d * d;
     }
-    sum / (n as f64)
+    sum / (a.len() as f64)
 }
 
-// Of a cell's taps.
-pub fn cell_mean(taps: [f64; 9]) -> f64
-    ensures { result ≡ spec.mean (spec.listed taps) 9 }
+// The grade of cells whose taps are all inside, of their means and of the sum of their variances.
+pub fn grade_inside(means: &[f64], within: f64) -> Grade
+    requires { length means.now ≤ 2 ^ 53 }
+    ensures { result ≡ spec.grade_inside (length means.now) (spec.fisher_of
+        (spec.listed means.now) within (length means.now)) }
 {
-    mean(&taps[..], 9)
+    if means.len() < 16 {
+        return Grade::TooFew;
+    }
+    Grade::Score(fisher(means, within))
 }
 
-pub fn cell_variance(taps: [f64; 9], m: f64) -> f64
-    ensures { result ≡ spec.variance (spec.listed taps) 9 m }
-{
-    variance(&taps[..], 9, m)
-}
-
-// The ratio of the variance between n cells to that within them, of their means and of the sum of
+// The ratio of the variance between cells to that within them, of their means and of the sum of
 // their variances.
-pub fn fisher(means: &[f64], n: usize, within: f64) -> f64
-    requires { (n ≤ length means.now) × (n ≤ 2 ^ 53) }
-    ensures { result ≡ spec.fisher_of (spec.listed means.now) within n }
+fn fisher(means: &[f64], within: f64) -> f64
+    requires { length means.now ≤ 2 ^ 53 }
+    ensures { result ≡ spec.fisher_of (spec.listed means.now) within (length means.now) }
 {
-    let m = mean(means, n);
-    let between = variance(means, n, m);
-    between / (within / (n as f64) + 1.0)
+    let between = variance(means, mean(means));
+    between / (within / (means.len() as f64) + 1.0)
 }

@@ -1,5 +1,5 @@
 // What the crates above call with tested arguments.
-ghost use Rattle.std.specs.Prelude.{◌≡◌, true, false, ◌+◌, ◌*◌, ◌≤◌, ◌<◌, length};
+ghost use Rattle.std.specs.Prelude.{◌≡◌, ◌≤◌, length};
 ghost use Rattle.frame.specs.Image.{image};
 ghost use Rattle.frame.specs.Limits.{FrameHeld, SidesHeld, CaptureHeld};
 ghost use Rattle.fit.specs.Grid.{grade_of, score_of};
@@ -8,7 +8,7 @@ ghost use Rattle.fit.specs.Promises.{sampled_cells};
 
 pub use super::numbers::{fit_numbers, fit_of, grade_number, matrix_of};
 use crate::{Fitted, GeometryFit, Grade, grid};
-use frame::{FrameSpec, Quad, Verdict};
+use frame::{FrameSpec, Quad, Refusal};
 use homography::Homography;
 use radial::Radial;
 
@@ -16,15 +16,11 @@ use radial::Radial;
 fn undistorted(lens: Radial, q: Quad) -> Quad
     ensures { result ≡ spec.undistorted lens q }
 {
-    let tl = lens.undistort(q.tl);
-    let tr = lens.undistort(q.tr);
-    let br = lens.undistort(q.br);
-    let bl = lens.undistort(q.bl);
     Quad {
-        tl: tl,
-        tr: tr,
-        br: br,
-        bl: bl,
+        tl: lens.undistort(q.tl),
+        tr: lens.undistort(q.tr),
+        br: lens.undistort(q.br),
+        bl: lens.undistort(q.bl),
     }
 }
 
@@ -32,24 +28,24 @@ fn undistorted(lens: Radial, q: Quad) -> Quad
 pub fn no_fit() -> GeometryFit
     ensures { result ≡ spec.no_fit }
 {
-    let h = Homography::identity();
-    let lens = Radial {
-        k: 0.0,
-        cx: 0.0,
-        cy: 0.0,
-        norm: 1.0,
-    };
-    GeometryFit { h: h, radial: lens }
+    GeometryFit {
+        h: Homography::identity(),
+        radial: Radial {
+            k: 0.0,
+            cx: 0.0,
+            cy: 0.0,
+            norm: 1.0,
+        },
+    }
 }
 
 // Refused: no fit.
-pub fn unfitted(number: u32) -> Fitted
-    ensures { result ≡ spec.unfitted number }
+pub fn unfitted(refusal: Refusal) -> Fitted
+    ensures { result ≡ spec.unfitted refusal }
 {
-    let fit = no_fit();
     Fitted {
-        verdict: Verdict::Refused(number),
-        fit: fit,
+        verdict: Err(refusal),
+        fit: no_fit(),
     }
 }
 
@@ -61,17 +57,15 @@ pub fn fitted(w: usize, h: usize, frame: FrameSpec, quad: Quad, k: f64) -> Fitte
     let lens = radial::internal::lens(w, h, k);
     let centers = markers::internal::centers(frame);
     let solved = Homography::from_points(centers, undistorted(lens, quad));
-    let verdict = solved.verdict;
-    let h = solved.h;
-    match verdict {
-        Verdict::Accepted => {
-            let fit = GeometryFit { h: h, radial: lens };
-            Fitted {
-                verdict: verdict,
-                fit: fit,
-            }
-        }
-        Verdict::Refused(_) => unfitted(10),
+    match solved.verdict {
+        Ok(()) => Fitted {
+            verdict: Ok(()),
+            fit: GeometryFit {
+                h: solved.h,
+                radial: lens,
+            },
+        },
+        Err(refusal) => unfitted(refusal),
     }
 }
 
@@ -80,9 +74,7 @@ pub fn sampled_cells(frame: FrameSpec) -> usize
     requires { FrameHeld frame }
     ensures { (result ≡ sampled_cells frame) × (result ≤ 1865956) }
 {
-    let down = grid::down(frame);
-    let across = grid::across(frame);
-    down * across
+    grid::down(frame) * grid::across(frame)
 }
 
 // The grid score: the first tap outside the picture ends the walks over taps, columns and rows.
@@ -100,9 +92,7 @@ pub fn grade(
     let cols = frame::internal::cols(frame);
     let across = grid::across(frame);
     let down = grid::down(frame);
-    let mut found = false;
-    let mut cell = 0;
-    let mut n: usize = 0;
+    let mut outside = None;
     let mut within = 0.0;
     'rows: for y in 0..down {
         'cols: for x in 0..across {
@@ -113,37 +103,28 @@ pub fn grade(
                 let p = grid::tap_place(frame, fit, c, r, i);
                 let s = sampling::internal::sample(capture, w, h, p);
                 if grid::tap_outside(w, h, p, s.inside) {
-                    found = true;
-                    cell = r * cols + c;
+                    outside = Some(r * cols + c);
                     break 'rows;
                 }
-                let colour = s.colour;
-                taps[i] = grid::luma(colour);
+                taps[i] = grid::luma(s.colour);
             }
-            let m = grid::cell_mean(taps);
-            within = within + grid::cell_variance(taps, m);
-            means[n] = m;
-            n += 1;
+            let m = grid::mean(&taps);
+            within += grid::variance(&taps, m);
+            means[y * across + x] = m;
         }
     }
-    if found {
-        return Grade::Outside(cell);
+    match outside {
+        Some(cell) => Grade::Outside(cell),
+        None => grid::grade_inside(means, within),
     }
-    if n < 16 {
-        return Grade::TooFew;
-    }
-    let score = grid::fisher(means, n, within);
-    Grade::Score(score)
 }
 
-// The score that a grade stands for: outside and too few as −∞.
 // The original's one float: −∞ stands for outside and too few.
 pub fn score_of(g: Grade) -> f64
     ensures { result ≡ score_of g }
 {
     match g {
         Grade::Score(s) => s,
-        Grade::Outside(_) => -(1.0 / 0.0),
-        Grade::TooFew => -(1.0 / 0.0),
+        Grade::Outside(_) | Grade::TooFew => f64::NEG_INFINITY,
     }
 }

@@ -11,7 +11,7 @@ ghost use Rattle.fit.specs.Grid.{placed};
 ghost use Rattle.fit.specs.Fits.{fit_for};
 ghost use Rattle.fit.specs.Promises as contracts;
 
-use frame::{FrameSpec, Point, Quad, Verdict};
+use frame::{FrameSpec, Point, Quad, Refusal};
 use homography::Homography;
 use radial::Radial;
 
@@ -22,18 +22,35 @@ pub struct GeometryFit {
     pub radial: Radial,
 }
 
+// What fit_for gives: the fit beside the verdict. Where it is refused the fit is the identity with
+// no lens.
+#[derive(Clone, Copy)]
+pub struct Fitted {
+    pub verdict: Result<(), Refusal>,
+    pub fit: GeometryFit,
+}
+
+// What the cell grid says of a fit: a score; or a tap outside the picture, with the number of its
+// cell; or fewer than 16 sampled cells.
+#[derive(Clone, Copy)]
+pub enum Grade {
+    Score(f64),
+    Outside(usize),
+    TooFew,
+}
+
 // The fit for a lens term over four observed points. Refusals 1, 2 (sides), 5 and 10.
 pub fn fit_for(w: usize, h: usize, frame: FrameSpec, points: Quad, k: f64) -> Fitted
     ensures { result ≡ contracts.fitted_by (contracts.fit_for_tests w h frame points k) (fit_for w h frame points k) }
 {
     if frame::internal::frame_outside(frame) {
-        return internal::unfitted(1);
+        return internal::unfitted(Refusal::FrameOutside);
     }
     if frame::internal::sides_wrong(w, h) {
-        return internal::unfitted(2);
+        return internal::unfitted(Refusal::CaptureWrong);
     }
     if markers::internal::no_layout(frame) {
-        return internal::unfitted(5);
+        return internal::unfitted(Refusal::NoLayout);
     }
     internal::fitted(w, h, frame, points, k)
 }
@@ -47,22 +64,21 @@ pub fn grid_score(
     frame: FrameSpec,
     fit: GeometryFit,
     means: &mut [f64],
-) -> GridScore
+) -> Result<Grade, Refusal>
     ensures { contracts.Scoring (image w h capture.now) frame fit means.old
         means.new result }
 {
     if frame::internal::frame_outside(frame) {
-        return GridScore::Refused(1);
+        return Err(Refusal::FrameOutside);
     }
     if frame::internal::capture_wrong(capture, w, h) {
-        return GridScore::Refused(2);
+        return Err(Refusal::CaptureWrong);
     }
     let n = internal::sampled_cells(frame);
     if means.len() < n {
-        return GridScore::Refused(3);
+        return Err(Refusal::AreaShort);
     }
-    let g = internal::grade(capture, w, h, frame, fit, &mut means[..n]);
-    GridScore::Is(g)
+    Ok(internal::grade(capture, w, h, frame, fit, &mut means[..n]))
 }
 
 impl GeometryFit {
@@ -70,33 +86,6 @@ impl GeometryFit {
     pub fn map(self, p: Point) -> Point
         ensures { result ≡ placed self p }
     {
-        let h = self.h;
-        let lens = self.radial;
-        let q = h.apply(p);
-        lens.distort(q)
+        self.radial.distort(self.h.apply(p))
     }
-}
-
-// What fit_for gives: the fit beside the enum. Where it is refused the fit is the identity with no
-// lens.
-#[derive(Clone, Copy)]
-pub struct Fitted {
-    pub verdict: Verdict,
-    pub fit: GeometryFit,
-}
-
-// What the cell grid says of a fit: a score; or a tap outside the picture, with the number of its
-// cell; or fewer than 16 sampled cells.
-#[derive(Clone, Copy)]
-pub enum Grade {
-    Score(f64),
-    Outside(usize),
-    TooFew,
-}
-
-// What grid_score gives.
-#[derive(Clone, Copy)]
-pub enum GridScore {
-    Is(Grade),
-    Refused(u32),
 }

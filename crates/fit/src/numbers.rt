@@ -12,10 +12,8 @@ pub fn matrix_of(l: &[f64]) -> Homography
     ensures { result ≡ matrix_of l.now }
 {
     let mut m = [0.0; 9];
-    for i in 0..9 {
-        m[i] = l[i];
-    }
-    Homography::from_mat(m)
+    m.copy_from_slice(&l[..9]);
+    Homography { m }
 }
 
 // Thirteen numbers as a fit: the matrix, then the lens.
@@ -23,22 +21,22 @@ pub fn fit_of(l: &[f64]) -> GeometryFit
     requires { 13 ≤ length l.now }
     ensures { result ≡ fit_of l.now }
 {
-    let h = matrix_of(l);
-    let lens = Radial {
-        k: l[9],
-        cx: l[10],
-        cy: l[11],
-        norm: l[12],
-    };
-    GeometryFit { h: h, radial: lens }
+    GeometryFit {
+        h: matrix_of(l),
+        radial: Radial {
+            k: l[9],
+            cx: l[10],
+            cy: l[11],
+            norm: l[12],
+        },
+    }
 }
 
 // A fit as thirteen numbers.
 pub fn fit_numbers(fit: GeometryFit) -> [f64; 13]
     ensures { result ≡ fit_numbers fit }
 {
-    let h = fit.h;
-    let m = h.m;
+    let m = fit.h.m;
     let l = fit.radial;
     [
         m[0], m[1], m[2], m[3], m[4], m[5], m[6], m[7], m[8], l.k, l.cx, l.cy, l.norm,

@@ -9,10 +9,13 @@ use lib.Dec.{ltb}
 use lib.Ieee.{Float}
 use lib.ListN.{length}
 use Rattle.frame.specs.Image.{Image}
-use Rattle.frame.specs.Refusals.{Check, Lowest, Tested, verdict_of, lowest_of}
+use Rattle.std.specs.Prelude.{Result, Ok, Err}
+use Rattle.frame.specs.Refusals.{number_of, Check, Lowest, Tested, lowest_of}
 use Rattle.frame.specs.Refusals.Lowest.{accepted, refused}
 use Rattle.frame.specs.declared.FrameSpec.{FrameSpec}
 use Rattle.frame.specs.declared.Quad.{Quad}
+use Rattle.frame.specs.declared.refusals.Refusal.{Refusal}
+use Rattle.frame.proofs.Given as given
 use Rattle.frame.proofs.Lowest.{Rising, lowest_unique, lowest_holds, none_tested}
 use Rattle.candidates.specs.Agreement.{SameLook}
 use Rattle.candidates.specs.Areas.{Areas, lengths_of}
@@ -20,13 +23,14 @@ use Rattle.candidates.specs.Bounds.{Ready}
 use Rattle.candidates.specs.Promises.{Looked}
 use Rattle.candidates.proofs.Determined as look
 use Rattle.candidates.proofs.Refusing.{rising, upto_six}
+use Rattle.fiducials.specs.declared.Places.{Places}
 use Rattle.fiducials.specs.Promises.{MarkedBy, centers_at}
 use Rattle.fiducials.specs.Promises.Undetected.{tested, few, shared, crooked}
 use Rattle.fiducials.proofs.Determined.{undetected_positive}
 use Rattle.fiducials.proofs.Unique.{corners_mark, marked_unique, places_unique}
 use Rattle.search.specs.Stages.{searched}
 use Rattle.fit_geometry.specs.Agreement.{SameTests, SameFit}
-use Rattle.fit_geometry.specs.Promises.{Unfitted, undetected, barren, fit_short, fit_tests, stage_of, FittingAfter, Fitting}
+use Rattle.fit_geometry.specs.Promises.{Unfitted, undetected, barren, fit_short, fit_tests, corners_named, FittingAfter, Fitting}
 use Rattle.fit_geometry.specs.declared.PictureFit.{PictureFit}
 use Rattle.fit_geometry.proofs.PastTests.{tests_lowest, fit_ready}
 
@@ -115,28 +119,25 @@ module _ (img : Image) (f : FrameSpec) where
 -- ---- two answers
 
 -- how many patches and candidates there are, and the most pixels that waited
-abbrev pub Counts : PictureFit → PictureFit → Type 0
-Counts r r' = (r.patches ≡ r'.patches) × (r.candidates ≡ r'.candidates) × (r.waited ≡ r'.waited)
-
-pub counts : (img : Image) (f : FrameSpec) {a a' b b' : Areas} (r r' : PictureFit) → Looked img f a b r.patches r.candidates r.waited
-    → Looked img f a' b' r'.patches r'.candidates r'.waited → Counts r r'
+pub counts : (img : Image) (f : FrameSpec) {a a' b b' : Areas} (r r' : PictureFit) → Looked img f a b r.counts.patches r.counts.candidates r.counts.waited
+    → Looked img f a' b' r'.counts.patches r'.counts.candidates r'.counts.waited → r.counts ≡ r'.counts
 counts img f r r' l l' =
-    (look.same_patches img f _ _ _ _ _ _ _ _ _ _ l l', look.same_candidates img f _ _ _ _ _ _ _ _ _ _ l l', look.same_waited img f _ _ _ _ _ _ _ _ _ _ l l')
+    λ i. record {
+      patches = look.same_patches img f _ _ _ _ _ _ _ _ _ _ l l' i;
+      candidates = look.same_candidates img f _ _ _ _ _ _ _ _ _ _ l l' i;
+      waited = look.same_waited img f _ _ _ _ _ _ _ _ _ _ l l' i;
+    }
+
+same_places : (p q : Result Places Refusal) → number_of p ≡ number_of q → corners_named p ≡ corners_named q → p ≡ q
+same_places (Ok x) (Ok y) e h = ap Ok h
+same_places (Ok x) (Err s) e h = let z = given.positive s in absurd (omega arith)
+same_places (Err r) (Ok y) e h = let z = given.positive r in absurd (omega arith)
+same_places (Err r) (Err s) e h = ap Err (given.number_injective r s e)
 
 -- an answer is its parts
-pub same_answer : (r r' : PictureFit) → r.verdict ≡ r'.verdict → stage_of r ≡ stage_of r' → r.places ≡ r'.places → Counts r r' → r ≡ r'
-same_answer r r' v s p n =
-    λ i. record {
-      verdict = v i;
-      fit = (s i).fit;
-      kept = (s i).kept;
-      tried = (s i).tried;
-      homographies = (s i).homographies;
-      places = p i;
-      patches = n.0 i;
-      candidates = n.1 i;
-      waited = n.2 i;
-    }
+pub same_answer : (r r' : PictureFit) → number_of r.places ≡ number_of r'.places → r.stage ≡ r'.stage → corners_named r.places ≡ corners_named r'.places
+    → r.counts ≡ r'.counts → r ≡ r'
+same_answer r r' e s p n = λ i. record { places = same_places r.places r'.places e p i; stage = s i; counts = n i }
 
 -- ---- two calls, with tests of their own
 
@@ -149,46 +150,47 @@ module _ (img : Image) (f : FrameSpec) {t t' : List Check} {a a' b b' : Areas} {
     abbrev yes' : h'.number ≡ 0
     yes' = sym same_number ∙ yes
 
-    places_agree : r.places ≡ r'.places
-    places_agree = places_unique img f (h.accepted yes).patches (h'.accepted yes').patches r.places r'.places (h.corners yes) (h'.corners yes')
+    places_agree : corners_named r.places ≡ corners_named r'.places
+    places_agree = places_unique img f (h.accepted yes).patches (h'.accepted yes').patches (corners_named r.places) (corners_named r'.places) (h.corners yes) (h'.corners yes')
 
-    centers_agree : centers_at b.patches r.places ≡ centers_at b'.patches r'.places
+    centers_agree : centers_at b.patches (corners_named r.places) ≡ centers_at b'.patches (corners_named r'.places)
     centers_agree =
         marked_unique img f _ _
-        (corners_mark img f b.patches (h.accepted yes).firsts r.patches r.places (h.corners yes))
-        (corners_mark img f b'.patches (h'.accepted yes').firsts r'.patches r'.places (h'.corners yes'))
+        (corners_mark img f b.patches (h.accepted yes).firsts r.counts.patches (corners_named r.places) (h.corners yes))
+        (corners_mark img f b'.patches (h'.accepted yes').firsts r'.counts.patches (corners_named r'.places) (h'.corners yes'))
 
-    stage_agrees : stage_of r ≡ stage_of r'
+    stage_agrees : r.stage ≡ r'.stage
     stage_agrees = h.found yes ∙ ap (searched img f) centers_agree ∙ sym (h'.found yes')
 
-  ten : 10 ≤ h.number → stage_of r ≡ stage_of r'
+  ten : 10 ≤ h.number → r.stage ≡ r'.stage
   ten z =
       let x = ten_marked img f t g.most h.number z (lowest_holds (Unfitted img f t) (positive img f t g.rises) h.number h.refusal (omega arith)) in
       h.fruitless x.0 x.1.0 x.1.1 ∙ sym (h'.fruitless (sym same_number ∙ x.0) x.1.0 x.1.1)
 
-  tried_agree : 7 ≤ h.number → stage_of r ≡ stage_of r'
+  tried_agree : 7 ≤ h.number → r.stage ≡ r'.stage
   tried_agree z = go (ltb h.number 10) refl
     where
-      go : (s : Bool) → ltb h.number 10 ≡ s → stage_of r ≡ stage_of r'
+      go : (s : Bool) → ltb h.number 10 ≡ s → r.stage ≡ r'.stage
       go true y = let x = ltb-true h.number 10 y in h.untried (omega arith) (omega arith) ∙ sym (h'.untried (omega (arith, same_number)) (omega (arith, same_number)))
       go false y = ten (ltb-false h.number 10 y)
 
   -- the parts of the answer, whatever the number
-  parts : Kind h.number → (stage_of r ≡ stage_of r') × (r.places ≡ r'.places) × Counts r r'
+  parts : Kind h.number → (r.stage ≡ r'.stage) × (corners_named r.places ≡ corners_named r'.places) × (r.counts ≡ r'.counts)
   parts (fine z) = (stage_agrees z, places_agree z, counts img f r r' (h.accepted z) (h'.accepted (sym same_number ∙ z)))
   parts (low x y) =
       let u = h.untouched x y in
       let x' : 1 ≤ h'.number = omega (arith, same_number) in
       let y' : h'.number ≤ 6 = omega (arith, same_number) in
       let u' = h'.untouched x' y' in
-      (h.untried x (omega arith) ∙ sym (h'.untried x' (omega arith)), h.nowhere x ∙ sym (h'.nowhere x'), (u.2 ∙ sym u'.2, u.3 ∙ sym u'.3, u.4 ∙ sym u'.4))
+      let n : r.counts ≡ r'.counts = λ i. record { patches = (u.2 ∙ sym u'.2) i; candidates = (u.3 ∙ sym u'.3) i; waited = (u.4 ∙ sym u'.4) i } in
+      (h.untried x (omega arith) ∙ sym (h'.untried x' (omega arith)), h.nowhere x ∙ sym (h'.nowhere x'), n)
   parts (high z) =
       (tried_agree z, h.nowhere (omega arith) ∙ sym (h'.nowhere (omega (arith, same_number))), counts img f r r' (h.refused z) (h'.refused (subst (λ k. 7 ≤ k) same_number z)))
 
   answers_agree : r ≡ r'
-  answers_agree = let p = parts (kind h.number) in same_answer r r' (h.given ∙ ap verdict_of same_number ∙ sym h'.given) p.0 p.1 p.2
+  answers_agree = let p = parts (kind h.number) in same_answer r r' (h.given ∙ same_number ∙ sym h'.given) p.0 p.1 p.2
 
-  looks_agree : lowest_of t ≡ 0 → Kind h.number → SameLook img b b' r.patches r.candidates
+  looks_agree : lowest_of t ≡ 0 → Kind h.number → SameLook img b b' r.counts.patches r.counts.candidates
   looks_agree z (fine x) =
       look.same_look img f _ _ _ _ _ _ _ _ _ _ (h.accepted x) (h'.accepted (sym same_number ∙ x)) (g.ready z) (g'.ready (sym e ∙ z))
   looks_agree z (low x y) = absurd (let s : 7 ≤ h.number = from_seven img f t g h.number h.refusal z x in omega arith)
@@ -213,5 +215,5 @@ module _ (img : Image) (f : FrameSpec) {a a' b b' : Areas} {m m' o o' : List Flo
   determined e = same_fit img f (guarding img f a m) (guarding img f a' m') h h' e
 
   -- two calls that no test refuses
-  pub unrefused : lowest_of (fit_tests img f a m) ≡ 0 → lowest_of (fit_tests img f a' m') ≡ 0 → (r ≡ r') × SameLook img b b' r.patches r.candidates
+  pub unrefused : lowest_of (fit_tests img f a m) ≡ 0 → lowest_of (fit_tests img f a' m') ≡ 0 → (r ≡ r') × SameLook img b b' r.counts.patches r.counts.candidates
   unrefused z z' = let s = determined (z ∙ sym z') in (s.answer, s.look z)

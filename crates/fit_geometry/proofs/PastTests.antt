@@ -1,39 +1,41 @@
 -- From a detection and a search to what `fit_geometry` promises. Assumes nothing.
-use mathlib.Core.Path.{◌≡◌, refl, sym, ap, subst}
-use mathlib.Core.Bool.{Bool, true, false, not, ◌||◌}
+use mathlib.Core.Path.{◌≡◌, refl, sym, ap, subst, ◌∙◌}
+use mathlib.Core.Bool.{Bool, true, false, not, cond, ◌||◌}
 use mathlib.Core.List.{List, []}
-use Prim.Native.Nat.{ℕ, zero, suc, ◌≤◌, ◌<◌}
-use native.Mathlib.Nat.{pos_of_ne-zero}
+use Prim.Native.Nat.{ℕ, ◌≤◌, ◌<◌}
 use native.Mathlib.Omega.{arith}
 use lib.Dec.{T, T_not, ltb}
 use lib.ListN.{length}
 use borrow.Author.Tests.{ltb-false}
 use lib.Ieee.{Float}
-use Rattle.base.proofs.Pick.{pick_yes, pick_no}
+use Rattle.std.specs.Prelude.{Result, Ok, Err}
 use Rattle.frame.specs.Image.{Image}
-use Rattle.frame.specs.Refusals.{Lowest, Check, Tested, lowest_of, capture_wrong}
+use Rattle.frame.specs.Refusals.{number, number_of, Lowest, Check, Tested, lowest_of, capture_wrong}
 use Rattle.frame.specs.Refusals.Lowest.{accepted, refused}
 use Rattle.frame.proofs.Held.{capture_held}
 use Rattle.frame.proofs.Lowest.{Rising, lowest_of_lem, none_tested}
 use Rattle.base.proofs.Tests.{or_left, or_right}
 use Rattle.frame.specs.declared.FrameSpec.{FrameSpec}
 use Rattle.frame.specs.declared.Quad.{Quad}
+use Rattle.frame.specs.declared.refusals.Refusal.{Refusal}
+use Rattle.frame.specs.declared.refusals.Refusal.TheVariants as R
+use Rattle.frame.proofs.Given.{positive}
 use Rattle.candidates.specs.Areas.{Areas, lengths_of, shorter, smallest, area_short}
 use Rattle.candidates.specs.Bounds.{Ready}
 use Rattle.candidates.specs.declared.Lengths.{Lengths}
 use Rattle.candidates.proofs.Refusing.{Clear, clear, rising, upto_six, ready_of}
-use Rattle.fiducials.specs.Answers.{no_places}
+use Rattle.fiducials.specs.Answers.{places_of, quad_of}
 use Rattle.fiducials.specs.Promises.{MarkedBy, Undetected, centers_at, DetectionPastTests}
 use Rattle.fiducials.specs.Promises.Undetected.{tested, few, shared, crooked}
-use Rattle.fiducials.specs.declared.Found.{Found}
+use Rattle.fiducials.specs.declared.Corners.{Corners}
+use Rattle.candidates.specs.declared.Counts as candidates
 use Rattle.fiducials.proofs.Unique.{marked_unique}
 use Rattle.fit.specs.Promises.{sampled_cells, MeansKept}
 use Rattle.search.specs.declared.Stage.{Stage}
-use Rattle.fit_geometry.specs.declared.FitReport.{FitReport}
 use Rattle.fit_geometry.specs.declared.PictureFit.{PictureFit}
 use Rattle.search.specs.Counts.{Counts}
 use Rattle.search.specs.Stages.{keeps, searched, last_center, BestTrial}
-use Rattle.fit_geometry.specs.Promises.{Unfitted, undetected, barren, fit_short, fit_tests, unsearched, searched_report, FitPastTests, answer_of, refused_by_test, Fitting}
+use Rattle.fit_geometry.specs.Promises.{Unfitted, undetected, barren, fit_short, fit_tests, unsearched, searched_fit, FitPastTests, refused_by_test, Fitting}
 use Rattle.search.proofs.Counts.{search_counts}
 use Rattle.search.proofs.Kept.{search_best, search_barren, barren_search, some_grade}
 
@@ -90,26 +92,20 @@ module _ (img : Image) (f : FrameSpec) (tests : List Check) (none : (j : ℕ) �
 
 -- ---- past the tests
 
-pub report_kept : (d : Found) (t : Stage) → keeps t.kept ≡ true
-    → record { number = 0; stage = t; places = d.places; patches = d.patches; candidates = d.candidates; waited = d.waited } ≡ searched_report d t
-unfolding searched_report
-report_kept d t k = pick_yes _ _ _ k
+-- a detection, as its answer and counts say
+abbrev pub Detects : Image → FrameSpec → Areas → Areas → Result Corners Refusal → candidates.Counts → Type 0
+Detects img f a b c n = DetectionPastTests img f a b (number_of c) n.patches n.candidates n.waited (places_of c) (quad_of c)
 
-pub report_none : (d : Found) (t : Stage) → keeps t.kept ≡ false
-    → record { number = 10; stage = t; places = no_places; patches = d.patches; candidates = d.candidates; waited = d.waited } ≡ searched_report d t
-unfolding searched_report
-report_none d t k = pick_no _ _ _ k
-
-module _ (img : Image) (f : FrameSpec) (a b : Areas) (means : List Float) (d : Found)
-    (h : DetectionPastTests img f a b d.number d.patches d.candidates d.waited d.places d.quad) where
-  pub past_tests_unsearched : 1 ≤ d.number → FitPastTests img f a b means means (unsearched d)
+module _ (img : Image) (f : FrameSpec) (a b : Areas) (means : List Float) (n : candidates.Counts) where
+  pub past_tests_unsearched : (r : Refusal) → Detects img f a b (Err r) n → FitPastTests img f a b means means (unsearched r n)
   unfolding unsearched
-  past_tests_unsearched n =
-      let most : d.number ≤ 9 = detection_most img f [] (λ j t. t) d.number (h.lowest [] (λ j t. t)) in
+  past_tests_unsearched r h =
+      let some : 1 ≤ number r = positive r in
+      let most : number r ≤ 9 = detection_most img f [] (λ j t. t) (number r) (h.lowest [] (λ j t. t)) in
       record {
         looked = h.looked;
         means_rest = (refl, refl);
-        lowest = λ tests none. detection_lowest img f tests none d.number n (h.lowest tests none);
+        lowest = λ tests none. detection_lowest img f tests none (number r) some (h.lowest tests none);
         from_seven = h.from_seven;
         corners = λ e. absurd (omega arith);
         found = λ e. absurd (omega arith);
@@ -120,62 +116,66 @@ module _ (img : Image) (f : FrameSpec) (a b : Areas) (means : List Float) (d : F
         nowhere = λ x. refl;
       }
 
-  module _ (means' : List Float) (rest : MeansKept f means means') (z : d.number ≡ 0) where
-    kept_picture : keeps (searched img f d.quad).kept ≡ true
-        → FitPastTests img f a b means means' (record { number = 0; stage = searched img f d.quad; places = d.places; patches = d.patches; candidates = d.candidates; waited = d.waited })
+  module _ (c : Corners) (h : Detects img f a b (Ok c) n) (means' : List Float) (rest : MeansKept f means means') where
+    kept_picture : keeps (searched img f c.quad).kept ≡ true
+        → FitPastTests img f a b means means' (record { places = Ok c.places; stage = searched img f c.quad; counts = n })
     kept_picture k =
-        let g = some_grade (searched img f d.quad).kept (subst T (sym k) tt) in
-        let c : d.quad ≡ centers_at b.patches d.places = h.centers z in
+        let g = some_grade (searched img f c.quad).kept (subst T (sym k) tt) in
+        let e : c.quad ≡ centers_at b.patches c.places = h.centers refl in
         record {
           looked = h.looked;
           means_rest = rest;
-          lowest = λ tests none. kept_lowest img f tests none d.number z (h.lowest tests none) d.quad (h.marked z) k;
+          lowest = λ tests none. kept_lowest img f tests none 0 refl (h.lowest tests none) c.quad (h.marked refl) k;
           from_seven = λ x. absurd (omega arith);
-          corners = λ e. h.corners z;
-          found = λ e. ap (searched img f) c;
-          best = λ e.
-              subst (λ (q : Quad). BestTrial img f q 2 (last_center img f q) (searched img f d.quad).fit) c (search_best img f d.quad g.0 g.1);
-          counts = λ e.
-              subst (λ (q : Quad). Counts img f q (searched img f d.quad).tried (searched img f d.quad).homographies) c (search_counts img f d.quad g.0 g.1);
-          fruitless = λ e. absurd (omega arith);
+          corners = λ z. h.corners refl;
+          found = λ z. ap (searched img f) e;
+          best = λ z.
+              subst (λ (q : Quad). BestTrial img f q 2 (last_center img f q) (searched img f c.quad).fit) e (search_best img f c.quad g.0 g.1);
+          counts = λ z.
+              subst (λ (q : Quad). Counts img f q (searched img f c.quad).tried (searched img f c.quad).homographies) e (search_counts img f c.quad g.0 g.1);
+          fruitless = λ z. absurd (omega arith);
           untried = λ x. absurd (omega arith);
           nowhere = λ x. absurd (omega arith);
         }
 
-    fruitless_picture : keeps (searched img f d.quad).kept ≡ false
-        → FitPastTests img f a b means means' (record { number = 10; stage = searched img f d.quad; places = no_places; patches = d.patches; candidates = d.candidates; waited = d.waited })
+    fruitless_picture : keeps (searched img f c.quad).kept ≡ false
+        → FitPastTests img f a b means means' (record { places = Err R.NoHomography; stage = searched img f c.quad; counts = n })
     fruitless_picture k =
         record {
           looked = h.looked;
           means_rest = rest;
-          lowest = λ tests none. fruitless_lowest img f tests none d.number z (h.lowest tests none) d.quad (h.marked z) k;
+          lowest = λ tests none. fruitless_lowest img f tests none 0 refl (h.lowest tests none) c.quad (h.marked refl) k;
           from_seven = λ x. omega arith;
           corners = λ e. absurd (omega arith);
           found = λ e. absurd (omega arith);
           best = λ e. absurd (omega arith);
           counts = λ e. absurd (omega arith);
-          fruitless = λ e q m. ap (searched img f) (marked_unique img f d.quad q (h.marked z) m);
+          fruitless = λ e q m. ap (searched img f) (marked_unique img f c.quad q (h.marked refl) m);
           untried = λ x y. absurd (omega arith);
           nowhere = λ x. refl;
         }
 
-    pub past_tests_searched : (t : Stage) → t ≡ searched img f d.quad → FitPastTests img f a b means means' (searched_report d t)
-    past_tests_searched t e = subst (λ (s : Stage). FitPastTests img f a b means means' (searched_report d s)) (sym e) (go (keeps (searched img f d.quad).kept) refl)
+    pub past_tests_searched : FitPastTests img f a b means means' (searched_fit c.places (searched img f c.quad) n)
+    unfolding searched_fit
+    past_tests_searched = go (keeps (searched img f c.quad).kept) refl
       where
-        go : (k : Bool) → keeps (searched img f d.quad).kept ≡ k → FitPastTests img f a b means means' (searched_report d (searched img f d.quad))
-        go true k = subst (FitPastTests img f a b means means') (report_kept d (searched img f d.quad) k) (kept_picture k)
-        go false k = subst (FitPastTests img f a b means means') (report_none d (searched img f d.quad) k) (fruitless_picture k)
+        go : (k : Bool) → keeps (searched img f c.quad).kept ≡ k
+            → FitPastTests img f a b means means' (record { places = cond k (Ok c.places) (Err R.NoHomography); stage = searched img f c.quad; counts = n })
+        go true k = kept_picture k
+        go false k = fruitless_picture k
 
 -- .. as the code has it
-pub unsearched_is : (img : Image) (f : FrameSpec) (a b : Areas) (means : List Float) (d : Found) (r : FitReport)
-    → DetectionPastTests img f a b d.number d.patches d.candidates d.waited d.places d.quad
-    → (d.number ≡ 0 → ⊥) → r ≡ unsearched d → FitPastTests img f a b means means r
-unsearched_is img f a b means d r h n e = subst (FitPastTests img f a b means means) (sym e) (past_tests_unsearched img f a b means d h (pos_of_ne-zero n))
+module _ (img : Image) (f : FrameSpec) (a b : Areas) (means : List Float) {n : candidates.Counts} {d : Result Corners Refusal} {p : PictureFit} (h : Detects img f a b d n) where
+  pub unsearched_is : {r : Refusal} → d ≡ Err r → p ≡ unsearched r n → FitPastTests img f a b means means p
+  unsearched_is {r} e q =
+      subst (FitPastTests img f a b means means) (sym q)
+      (past_tests_unsearched img f a b means n r (subst (λ (c : Result Corners Refusal). Detects img f a b c n) e h))
 
-pub searched_is : (img : Image) (f : FrameSpec) (a b : Areas) (means means' : List Float) (d : Found) (t : Stage) (r : FitReport)
-    → DetectionPastTests img f a b d.number d.patches d.candidates d.waited d.places d.quad
-    → d.number ≡ 0 → t ≡ searched img f d.quad → MeansKept f means means' → r ≡ searched_report d t → FitPastTests img f a b means means' r
-searched_is img f a b means means' d t r h z e k p = subst (FitPastTests img f a b means means') (sym p) (past_tests_searched img f a b means d h means' k z t e)
+  pub searched_is : {c : Corners} {t : Stage} (means' : List Float) → d ≡ Ok c → t ≡ searched img f c.quad → MeansKept f means means'
+      → p ≡ searched_fit c.places t n → FitPastTests img f a b means means' p
+  searched_is {c} means' e s rest q =
+      subst (FitPastTests img f a b means means') (sym (q ∙ ap (λ (t : Stage). searched_fit c.places t n) s))
+      (past_tests_searched img f a b means n c (subst (λ (c : Result Corners Refusal). Detects img f a b c n) e h) means' rest)
 
 -- ---- the tests
 
@@ -213,15 +213,16 @@ module _ (img : Image) (f : FrameSpec) (a : Areas) (means : List Float) where
   abbrev short : Bool
   short = fit_short img f (lengths_of a) (length means)
 
-  pub fitting_refused : (n : ℕ) → n ≡ lowest_of (fit_tests img f a means) → 1 ≤ n → Fitting img f a a means means (answer_of (refused_by_test n))
-  unfolding answer_of refused_by_test
-  fitting_refused n e h =
-      let r = tests_lowest img f (fit_tests img f a means) (rising img f short false) (upto_six img f short false) n e h in
-      let s : n ≤ 6 = r.1 in
-      record {
-        number = n;
+  pub fit_refused : {p : PictureFit} (r : Refusal) → number r ≡ lowest_of (fit_tests img f a means) → p ≡ refused_by_test r → Fitting img f a a means means p
+  unfolding refused_by_test unsearched
+  fit_refused r e q =
+      let some : 1 ≤ number r = positive r in
+      let l = tests_lowest img f (fit_tests img f a means) (rising img f short false) (upto_six img f short false) (number r) e some in
+      let s : number r ≤ 6 = l.1 in
+      subst (Fitting img f a a means means) (sym q) (record {
+        number = number r;
         given = refl;
-        refusal = r.0;
+        refusal = l.0;
         untouched = λ x y. (refl, refl, refl, refl, refl);
         refused = λ x. absurd (omega arith);
         accepted = λ x. absurd (omega arith);
@@ -233,17 +234,16 @@ module _ (img : Image) (f : FrameSpec) (a : Areas) (means : List Float) where
         fruitless = λ x. absurd (omega arith);
         untried = λ x y. refl;
         nowhere = λ x. refl;
-      }
+      })
 
-  pub fitting_reported : (b : Areas) (means' : List Float) (p : FitReport) → lowest_of (fit_tests img f a means) ≡ 0
-      → FitPastTests img f a b means means' p → Fitting img f a b means means' (answer_of p)
-  unfolding answer_of
-  fitting_reported b means' p e h =
+  pub fit_reported : (b : Areas) (means' : List Float) (p : PictureFit) → lowest_of (fit_tests img f a means) ≡ 0
+      → FitPastTests img f a b means means' p → Fitting img f a b means means' p
+  fit_reported b means' p e h =
       record {
-        number = p.number;
+        number = number_of p.places;
         given = refl;
         refusal = h.lowest (fit_tests img f a means) (none_tested (fit_tests img f a means) (rising img f short false) e);
-        untouched = λ x y. absurd (let z : 7 ≤ p.number = h.from_seven x in omega arith);
+        untouched = λ x y. absurd (let z : 7 ≤ number_of p.places = h.from_seven x in omega arith);
         refused = λ x. h.looked;
         accepted = λ x. h.looked;
         means_rest = h.means_rest;
@@ -258,11 +258,3 @@ module _ (img : Image) (f : FrameSpec) (a : Areas) (means : List Float) where
 
   pub fit_ready : lowest_of (fit_tests img f a means) ≡ 0 → Ready img f a × (sampled_cells f ≤ length means)
   fit_ready e = fit_room img f a means false (clear img f short false e)
-
-  pub fit_refused : (n : ℕ) (r : PictureFit) → n ≡ lowest_of (fit_tests img f a means) → (n ≡ 0 → ⊥) → r ≡ answer_of (refused_by_test n) → Fitting img f a a means means r
-  fit_refused zero r e h p = absurd (h refl)
-  fit_refused (suc n) r e h p = subst (Fitting img f a a means means) (sym p) (fitting_refused (suc n) e (omega arith))
-
-  pub fit_reported : (b : Areas) (means' : List Float) (p : FitReport) (r : PictureFit) → lowest_of (fit_tests img f a means) ≡ 0
-      → FitPastTests img f a b means means' p → r ≡ answer_of p → Fitting img f a b means means' r
-  fit_reported b means' p r e h q = subst (Fitting img f a b means means') (sym q) (fitting_reported b means' p e h)

@@ -17,4 +17,4 @@ pub record SameFit (img : Image) (b b' : Areas) (r r' : PictureFit) (refusal : �
   -- the whole answer
   pub answer : r ≡ r'
   -- planes, marks and records; a test that refuses a call leaves its areas as they were. The cell means are free.
-  pub look : refusal ≡ 0 → SameLook img b b' r.patches r.candidates
+  pub look : refusal ≡ 0 → SameLook img b b' r.counts.patches r.counts.candidates

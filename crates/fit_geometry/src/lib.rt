@@ -5,41 +5,22 @@ ghost use Rattle.frame.specs.Image.{image};
 ghost use Rattle.candidates.specs.Areas.{areas};
 ghost use Rattle.fit_geometry.specs.Promises.{Fitting};
 
-use candidates::Lengths;
+use candidates::{Counts, Lengths};
 use fiducials::Places;
-use fit::GeometryFit;
-use frame::{FrameSpec, Verdict};
-use search::{Outcome, Stage};
+use frame::{FrameSpec, Refusal};
+use search::Stage;
 
 pub mod internal;
 
-// What a detection and a search give: 0 or a number from 7 on, the search's last stage, the
-// corners' places, and how much of the lists is filled.
-#[derive(Clone, Copy)]
-pub struct FitReport {
-    pub number: u32,
-    pub stage: Stage,
-    pub places: Places,
-    pub patches: usize,
-    pub candidates: usize,
-    pub waited: usize,
-}
-
-// The answer of fit_geometry: the fit and beside it the grade of the kept trial, how many different
-// lens terms the stages tried and how many of them had a homography, the corners' places in the
-// patch list, how many patches and candidates there are and the most pixels that waited. Where it
-// is refused there is no fit and the places are 0; the counts are those of the trials made.
+// The answer of fit_geometry: the corners' places in the patch list, or why it is refused; the
+// search's last stage, with the kept trial, its fit and how many different lens terms were tried;
+// how many patches and candidates there are, and the most pixels that waited. Where it is refused
+// there is no fit, and the counts are those of the trials made.
 #[derive(Clone, Copy)]
 pub struct PictureFit {
-    pub verdict: Verdict,
-    pub fit: GeometryFit,
-    pub kept: Outcome,
-    pub tried: usize,
-    pub homographies: usize,
-    pub places: Places,
-    pub patches: usize,
-    pub candidates: usize,
-    pub waited: usize,
+    pub places: Result<Places, Refusal>,
+    pub stage: Stage,
+    pub counts: Counts,
 }
 
 // Finds the four fiducials and fits the whole geometry, canonical to capture, with the lens term.
@@ -76,13 +57,11 @@ pub fn fit_geometry(
         candidates: candidates.len(),
         blob_index: blob_index.len(),
     };
-    let number = internal::refused(capture, w, h, frame, lengths, means.len());
-    if number != 0 {
-        return internal::refused_by_test(number);
+    if let Err(refusal) = internal::refused(capture, w, h, frame, lengths, means.len()) {
+        return internal::refused_by_test(refusal);
     }
-    let p = internal::fit_picture(
+    internal::fit_picture(
         capture, w, h, frame, luma, integral, mask, seen, waiting, patches, candidates, blob_index,
         means,
-    );
-    internal::answer(p)
+    )
 }

@@ -1,12 +1,14 @@
 -- Counts of positions beyond the picture's edge: what they come to, and the theorems of specs/Beyond. Assumes nothing.
 use Prim.Native.Nat.{ℕ, zero, suc, ◌+◌, ◌*◌, ◌≤◌, ◌<◌}
 use mathlib.Core.Path.{◌≡◌, refl, ap, ◌∙◌}
-use mathlib.Core.Bool.{Bool, true, false, cond}
+use mathlib.Core.Bool.{Bool, true, false, cond, not}
+use mir.Val.{bool_byte}
 use mathlib.Core.Logic.{⊎_elim}
 use native.Mathlib.Nat.{zero-mul, suc-mul, mul-one}
 use native.Mathlib.Omega.{arith}
 use Rattle.base.specs.Loops.{turns}
 use Rattle.base.proofs.Arith.{last_or}
+use Rattle.base.proofs.Turns.{turns_step}
 use Rattle.frame.specs.Image.{Image}
 use Rattle.frame.specs.declared.FrameSpec.{FrameSpec}
 use Rattle.fit.specs.declared.GeometryFit.{GeometryFit}
@@ -41,6 +43,10 @@ one_most : (b : Bool) → cond b 0 1 ≤ 1
 one_most true = omega arith
 one_most false = omega arith
 
+by_cases : (b : Bool) → ◌≡◌ {A = ℕ} (bool_byte (not b)) (cond b 0 1)
+by_cases true = refl
+by_cases false = refl
+
 one_none : (b : Bool) → ◌≡◌ {A = ℕ} (cond b 0 1) 0 → b ≡ true
 one_none true e = refl
 one_none false e = absurd (omega arith)
@@ -52,6 +58,11 @@ module _ (img : Image) (fit : GeometryFit) (y : ℕ) where
   -- of the first n pixels of the row
   pub count_most : (n : ℕ) → turns n (count_beyond img fit y) 0 ≤ n
   count_most n = omega (arith, added_most one 1 (λ x. one_most (inside_at img fit x y)) n, mul-one n)
+
+  -- with the pixel in column x
+  pub count_one : (x : ℕ) {n : ℕ} {b : Bool} → b ≡ inside_at img fit x y → n ≡ turns x (count_beyond img fit y) 0
+      → n + bool_byte (not b) ≡ turns (x + 1) (count_beyond img fit y) 0
+  count_one x {n} {b} h e = ap (λ k. n + k) (by_cases b ∙ ap (λ b. cond b 0 1) h) ∙ turns_step _ _ x e
 
   pub row_most : (f : FrameSpec) → row_beyond img f fit y ≤ f.width
   unfolding row_beyond

@@ -7,15 +7,13 @@ use native.Mathlib.Omega.{arith}
 use borrow.Author.Tests.{eqb-true, eqb-false}
 use lib.Dec.{eqb}
 use Rattle.frame.specs.Image.{Image}
-use Rattle.frame.specs.Refusals.{verdict_of, lowest_of}
+use Rattle.frame.specs.Refusals.{number_of, lowest_of}
 use Rattle.frame.specs.declared.FrameSpec.{FrameSpec}
-use Rattle.frame.specs.declared.Verdict.TheVariants.{Accepted}
-use Rattle.frame.proofs.Given.{accepted_zero}
 use Rattle.candidates.proofs.Determined as look
 use Rattle.candidates.proofs.Refusing.{rising, upto_six}
 use Rattle.fit.specs.Promises.{MeansKept}
 use Rattle.fit_geometry.specs.Agreement.{SameTests, SameFit}
-use Rattle.fit_geometry.specs.Promises.{stage_of, FittingAfter}
+use Rattle.fit_geometry.specs.Promises.{FittingAfter}
 use Rattle.fit_geometry.specs.declared.PictureFit.{PictureFit}
 use Rattle.fit_geometry.proofs.Determined.{Kind, fine, low, high, kind, Guarding, counts, none_where, same_answer, same_fit}
 use Rattle.geometry.specs.Warp.{warped, beyond}
@@ -61,8 +59,8 @@ fitting img f {a} {b} h other =
     rest (low x y) = subst (λ (l : Lent). MeansKept f a.means l.means) (sym (h.untouched x y)) (refl, refl)
     rest (high x) = (h.refused x).means_rest
 
-pub accepted_number : (img : Image) (f : FrameSpec) {a b : Lent} {r : PictureFit} {n : ℕ} (h : Rectification img f a b r n) → r.verdict ≡ Accepted → h.number ≡ 0
-accepted_number img f h v = accepted_zero h.given v
+pub accepted_number : (img : Image) (f : FrameSpec) {a b : Lent} {r : PictureFit} {n : ℕ} (h : Rectification img f a b r n) → number_of r.places ≡ 0 → h.number ≡ 0
+accepted_number img f h v = sym h.given ∙ v
 
 -- no test refuses an accepted one
 pub unrefused : (img : Image) (f : FrameSpec) {a b : Lent} {r : PictureFit} {n : ℕ} (h : Rectification img f a b r n) → h.number ≡ 0 → lowest_of (rectify_tests img f a) ≡ 0
@@ -86,7 +84,7 @@ module _ (img : Image) (f : FrameSpec) (a a' b b' : Lent) (r r' : PictureFit) (n
     abbrev seen' : Seen img f a' b' r' h'.number
     seen' = h'.refused (omega (arith, z'))
 
-    stage_agrees : stage_of r ≡ stage_of r'
+    stage_agrees : r.stage ≡ r'.stage
     stage_agrees =
         let c = unscored_card img f (rectify_tests img f a) h.number (guarding img f a).most z h.refusal in
         seen.undecided z c.0 c.1.0 ∙ sym (seen'.undecided z' c.0 c.1.0)
@@ -95,7 +93,7 @@ module _ (img : Image) (f : FrameSpec) (a a' b b' : Lent) (r r' : PictureFit) (n
     same_unscored =
         record {
           answer =
-              same_answer r r' (h.given ∙ ap verdict_of same_number ∙ sym h'.given) stage_agrees (h.nowhere (omega arith) ∙ sym (h'.nowhere (omega (arith, z'))))
+              same_answer r r' (h.given ∙ same_number ∙ sym h'.given) stage_agrees (h.nowhere (omega arith) ∙ sym (h'.nowhere (omega (arith, z'))))
               (counts img f r r' seen.looked seen'.looked);
           look = λ x.
               look.same_look img f _ _ _ _ _ _ _ _ _ _ seen.looked seen'.looked ((guarding img f a).ready x) ((guarding img f a').ready (sym e ∙ x));
@@ -109,12 +107,12 @@ module _ (img : Image) (f : FrameSpec) (a a' b b' : Lent) (r r' : PictureFit) (n
       go false x =
           same_fit img f (guarding img f a) (guarding img f a') (fitting img f h (eqb-false _ _ x)) (fitting img f h' (λ y. eqb-false _ _ x (same_number ∙ y))) e
 
-  module _ (v : r.verdict ≡ Accepted) where
+  module _ (v : number_of r.places ≡ 0) where
     yes : h.number ≡ 0
     yes = accepted_number img f h v
 
     yes' : h'.number ≡ 0
-    yes' = accepted_number img f h' (ap (λ (s : PictureFit). s.verdict) (sym same.answer) ∙ v)
+    yes' = accepted_number img f h' (ap (λ (s : PictureFit). number_of s.places) (sym same.answer) ∙ v)
 
     none : lowest_of (rectify_tests img f a) ≡ 0
     none = unrefused img f h yes
@@ -122,8 +120,8 @@ module _ (img : Image) (f : FrameSpec) (a a' b b' : Lent) (r r' : PictureFit) (n
     canonical_agrees : b.canonical ≡ b'.canonical
     canonical_agrees =
         (h.accepted yes).laid yes
-        ∙ warped_same img f r.fit a.canonical a'.canonical (passed img f a none).canonical_long (passed img f a' (sym e ∙ none)).canonical_long
-        ∙ ap (λ (s : PictureFit). warped img f s.fit a'.canonical) same.answer ∙ sym ((h'.accepted yes').laid yes')
+        ∙ warped_same img f r.stage.fit a.canonical a'.canonical (passed img f a none).canonical_long (passed img f a' (sym e ∙ none)).canonical_long
+        ∙ ap (λ (s : PictureFit). warped img f s.stage.fit a'.canonical) same.answer ∙ sym ((h'.accepted yes').laid yes')
 
   beyond_agrees : n ≡ n'
   beyond_agrees = go (kind h.number)
@@ -134,7 +132,7 @@ module _ (img : Image) (f : FrameSpec) (a a' b b' : Lent) (r r' : PictureFit) (n
       go : Kind h.number → n ≡ n'
       go (fine z) =
           h.beyond_is z
-          ∙ ap (λ (s : PictureFit). beyond img f s.fit) same.answer
+          ∙ ap (λ (s : PictureFit). beyond img f s.stage.fit) same.answer
           ∙ sym (h'.beyond_is (sym same_number ∙ z))
       go (low x y) = refused_both x
       go (high x) = refused_both (omega arith)

@@ -6,29 +6,22 @@ use lib.Ieee.{Float}
 use Rattle.base.specs.Loops.{table}
 use Rattle.float.specs.Floats.{f64}
 use Rattle.float.proofs.Marked.{m12}
-use Rattle.frame.specs.Answers.{number_for, number_as}
+use Rattle.std.specs.Prelude.{Ok}
 use Rattle.frame.specs.Refusals.{lowest_of, cell_held, side_tests, sides_wrong, side}
-use Rattle.frame.specs.declared.Number.TheVariants.{Is}
-use Rattle.frame.specs.declared.FrameSpec.{FrameSpec}
-use Rattle.markers.specs.Answers.{centers_for, centers_as}
-use Rattle.markers.specs.Promises.{cell_tests, layout_tests}
-use Rattle.markers.specs.Layout.{marker_centers}
-use Rattle.markers.specs.declared.Centers.TheVariants.{Are, Refused}
+use Rattle.frame.proofs.Given.{answer_number}
+use Rattle.frame.specs.declared.refusals.Refusal.TheVariants.{NoLayout}
+use Rattle.markers.specs.Promises.{cell_tests}
 use Rattle.markers.proofs.Marked as markers
 use Rattle.blobs.specs.Patches.{patch_at, PatchList}
 use Rattle.blobs.proofs.Masks as masks
 use Rattle.blobs.proofs.Unique.{lists_equal}
 use Rattle.candidates.proofs.Marked as probes
-use Rattle.radial.specs.Lens.{radial, new_lens, lens_as, lens_refusal, lens_value}
+use Rattle.radial.specs.Lens.{radial, new_lens}
 use Rattle.radial.proofs.Marked.{m11}
-use Rattle.geometry.specs.Marked.{Marked, Labelled, centers, mask7, mask8, list7, list8, blob}
+use Rattle.geometry.proofs.Given.{refused_as, passed_as}
+use Rattle.geometry.specs.Marked.{Marked, Labelled, mask7, mask8, list7, list8, blob}
 
 -- a cell within its limit has its number
-module _ (cell v : ℕ) (held : lowest_of (cell_tests cell) ≡ 0) where
-  number : (n : ℕ) → n ≡ v → number_for (cell_tests cell) n ≡ Is v
-  unfolding number_for number_as
-  number n e = ap (λ z. number_as z n) held ∙ ap Is e
-
 held9 : lowest_of (cell_tests 9) ≡ 0
 unfolding lowest_of cell_tests cell_held
 held9 = refl
@@ -40,14 +33,6 @@ held10 = refl
 held13 : lowest_of (cell_tests 13) ≡ 0
 unfolding lowest_of cell_tests cell_held
 held13 = refl
-
-refused : (f : FrameSpec) → lowest_of (layout_tests f) ≡ 5 → centers f ≡ Refused 5
-unfolding centers_for centers_as
-refused f e = ap (λ z. centers_as z (marker_centers f)) e
-
-accepted : centers (markers.frame 192 192 1 48) ≡ Are (marker_centers (markers.frame 192 192 1 48))
-unfolding centers_for centers_as
-accepted = ap (λ z. centers_as z (marker_centers (markers.frame 192 192 1 48))) markers.m4_accepted
 
 -- the records of a mask are those of any list of its patches
 labelled : (m j : List ℕ) (o : ℕ) (firsts : List ℕ) → PatchList m 3 j j o firsts → Labelled m (table (patch_at j) o)
@@ -65,22 +50,19 @@ sides : lowest_of (side_tests 60 80) ≡ 0
 unfolding lowest_of side_tests sides_wrong side
 sides = refl
 
-lens_is : (k : Float) → (lens_refusal (new_lens 60 80 k) ≡ 0) × ((lens_value (new_lens 60 80 k)).norm ≡ f64 50)
-unfolding new_lens lens_as lens_refusal lens_value
-lens_is k = (
-  ap (λ z. lens_refusal (lens_as z (radial 60 80 k))) sides,
-  ap (λ z. (lens_value (lens_as z (radial 60 80 k))).norm) sides ∙ m11 k,
-)
+lens_is : (k : Float) → (new_lens 60 80 k ≡ Ok (radial 60 80 k)) × ((radial 60 80 k).norm ≡ f64 50)
+unfolding new_lens
+lens_is k = (passed_as _ _ sides, m11 k)
 
 pub marked : Marked
 marked =
     record {
-      m1 = (number 9 72 held9 _ (markers.m1).0, number 9 12 held9 _ (markers.m1).1, number 9 96 held9 _ (markers.m1).2);
-      m2 = (number 10 80 held10 _ (markers.m2).0, number 10 13 held10 _ (markers.m2).1, number 10 106 held10 _ (markers.m2).2);
-      m3 = (number 13 96 held13 _ (markers.m3).0, number 13 16 held13 _ (markers.m3).1, number 13 128 held13 _ (markers.m3).2);
-      m4 = accepted ∙ ap Are markers.m4;
-      m5 = refused _ markers.m5;
-      m6 = refused _ markers.m6;
+      m1 = (passed_as _ _ held9 ∙ ap Ok markers.m1.0, passed_as _ _ held9 ∙ ap Ok markers.m1.1, passed_as _ _ held9 ∙ ap Ok markers.m1.2);
+      m2 = (passed_as _ _ held10 ∙ ap Ok markers.m2.0, passed_as _ _ held10 ∙ ap Ok markers.m2.1, passed_as _ _ held10 ∙ ap Ok markers.m2.2);
+      m3 = (passed_as _ _ held13 ∙ ap Ok markers.m3.0, passed_as _ _ held13 ∙ ap Ok markers.m3.1, passed_as _ _ held13 ∙ ap Ok markers.m3.2);
+      m4 = passed_as _ _ markers.m4_accepted ∙ ap Ok markers.m4;
+      m5 = refused_as NoLayout (answer_number _ _ ∙ markers.m5);
+      m6 = refused_as NoLayout (answer_number _ _ ∙ markers.m6);
       m7 = (masks.m7, three);
       m8 = (masks.m8_list, single);
       m9 = (λ s e a. probes.fourteen_pass s e.0 e.1 a.0 a.1 a.2, λ s e. probes.thirteen_fail s e.0 e.1);

@@ -1,7 +1,7 @@
 -- From the tests and a picture's fit to what `rectify` promises. Assumes nothing.
 use Prim.Native.Nat.{ℕ, zero, suc, ◌≤◌}
 use mathlib.Core.Path.{◌≡◌, refl, sym, ap, subst, ◌∙◌}
-use mathlib.Core.Bool.{Bool, true, false, ◌&&◌}
+use mathlib.Core.Bool.{Bool, true, false, cond, ◌&&◌}
 use mathlib.Core.List.{List}
 use native.Mathlib.Omega.{arith}
 use borrow.Author.Tests.{eqb-true, eqb-false, not-false}
@@ -9,17 +9,19 @@ use lib.Dec.{T, eqb}
 use lib.ListN.{length}
 use lib.Ieee.{Float}
 use Rattle.frame.specs.Image.{Image, byte_of}
-use Rattle.frame.specs.Refusals.{Lowest, lowest_of}
+use Rattle.std.specs.Prelude.{Err}
+use Rattle.frame.specs.Refusals.{number, number_of, Lowest, lowest_of}
 use Rattle.frame.specs.Refusals.Lowest.{accepted, refused}
 use Rattle.frame.specs.declared.FrameSpec.{FrameSpec}
 use Rattle.frame.specs.declared.Quad.{Quad}
+use Rattle.frame.specs.declared.refusals.Refusal.{Refusal}
+use Rattle.frame.specs.declared.refusals.Refusal.TheVariants.{Unscored}
+use Rattle.frame.proofs.Given.{positive}
 use Rattle.frame.proofs.Lowest.{none_tested}
-use Rattle.base.proofs.Pick.{pick_yes, pick_no}
 use Rattle.base.proofs.Table.{filled_whole}
 use Rattle.candidates.specs.Areas.{Areas, lengths_of}
 use Rattle.candidates.specs.Bounds.{Ready}
 use Rattle.candidates.proofs.Refusing.{clear, rising, upto_six}
-use Rattle.fiducials.specs.Answers.{no_places}
 use Rattle.fiducials.specs.Promises.{MarkedBy, centers_at}
 use Rattle.fiducials.proofs.Unique.{corners_mark, marked_unique}
 use Rattle.fit.specs.Promises.{sampled_cells}
@@ -29,14 +31,13 @@ use Rattle.search.specs.Counts.{Counts}
 use Rattle.search.specs.Stages.{keeps, searched}
 use Rattle.search.specs.declared.Outcome.{Outcome}
 use Rattle.search.specs.declared.Stage.{Stage}
-use Rattle.fit_geometry.specs.Promises.{Unfitted, fit_short, FitPastTests, answer_of, refused_by_test}
-use Rattle.fit_geometry.specs.declared.FitReport.{FitReport}
+use Rattle.fit_geometry.specs.Promises.{Unfitted, fit_short, corners_named, FitPastTests, unsearched, refused_by_test}
 use Rattle.fit_geometry.specs.declared.PictureFit.{PictureFit}
 use Rattle.fit_geometry.proofs.Determined.{Kind, fine, low, high, kind}
 use Rattle.fit_geometry.proofs.PastTests.{fit_room, tests_lowest}
 use Rattle.geometry.specs.Warp.{reading, warped, beyond}
 use Rattle.geometry.specs.Promises.{canonical_length, canonical_wrong}
-use Rattle.geometry.specs.Rectification.{Lent, lent, rectify_tests, unscored, Unrectified, without_fit, scored_report, laid_where, beyond_where, Seen, Rectification}
+use Rattle.geometry.specs.Rectification.{Lent, lent, rectify_tests, unscored, Unrectified, without_fit, scored_fit, laid_where, beyond_where, Seen, Rectification}
 use Rattle.geometry.proofs.Unscored.{score_kept, upto_ten, keeps_one, refused_fit, scored_fit_lem, unscored_fit_lem}
 
 -- ---- the canonical image
@@ -62,7 +63,8 @@ beyond_kept zero img f fit h = absurd (h refl)
 beyond_kept (suc n) img f fit h = refl
 
 -- the same bytes over whatever it held
-pub warped_same : (img : Image) (f : FrameSpec) (fit : GeometryFit) (c d : List ℕ) → length c ≡ canonical_length f → length d ≡ canonical_length f → warped img f fit c ≡ warped img f fit d
+pub warped_same : (img : Image) (f : FrameSpec) (fit : GeometryFit) (c d : List ℕ) → length c ≡ canonical_length f → length d ≡ canonical_length f
+    → warped img f fit c ≡ warped img f fit d
 unfolding warped
 warped_same img f fit c d x y =
     filled_whole (byte_of f.width (reading img fit)) (canonical_length f) c x ∙ sym (filled_whole (byte_of f.width (reading img fit)) (canonical_length f) d y)
@@ -82,18 +84,6 @@ passed img f a e =
     let r = fit_room img f a.areas a.means _ c in
     record { ready = r.0; means_room = r.1; canonical_long = eqb-true _ _ (not-false _ c.right) }
 
--- ---- refusal 16
-
--- the record of `scored_report`, where it applies and where not
-pub report_unscored : (p : FitReport) → (eqb p.number 0 && unscored p.stage.kept) ≡ true
-    → scored_report p ≡ record { number = 16; stage = without_fit p.stage; places = no_places; patches = p.patches; candidates = p.candidates; waited = p.waited }
-unfolding scored_report
-report_unscored p e = sym (pick_yes _ _ _ e)
-
-pub report_scored : (p : FitReport) → (eqb p.number 0 && unscored p.stage.kept) ≡ false → scored_report p ≡ p
-unfolding scored_report
-report_scored p e = sym (pick_no _ _ _ e)
-
 -- ---- `rectify`
 
 module _ (img : Image) (f : FrameSpec) (a : Lent) where
@@ -103,15 +93,16 @@ module _ (img : Image) (f : FrameSpec) (a : Lent) where
   abbrev wrong : Bool
   wrong = canonical_wrong f (length a.canonical)
 
-  refusing : (n : ℕ) → n ≡ lowest_of (rectify_tests img f a) → 1 ≤ n → Rectification img f a a (answer_of (refused_by_test n)) 0
-  unfolding answer_of refused_by_test
-  refusing n e h =
-      let r = tests_lowest img f (rectify_tests img f a) (rising img f short wrong) (upto_six img f short wrong) n e h in
-      let s : n ≤ 6 = r.1 in
-      record {
-        number = n;
+  pub rectify_refused : {p : PictureFit} (r : Refusal) → number r ≡ lowest_of (rectify_tests img f a) → p ≡ refused_by_test r → Rectification img f a a p 0
+  unfolding refused_by_test unsearched
+  rectify_refused r e q =
+      let some : 1 ≤ number r = positive r in
+      let l = tests_lowest img f (rectify_tests img f a) (rising img f short wrong) (upto_six img f short wrong) (number r) e some in
+      let s : number r ≤ 6 = l.1 in
+      subst (λ (t : PictureFit). Rectification img f a a t 0) (sym q) (record {
+        number = number r;
         given = refl;
-        refusal = refused_fit img f (rectify_tests img f a) n (upto_six img f short wrong) h r.0;
+        refusal = refused_fit img f (rectify_tests img f a) (number r) (upto_six img f short wrong) some l.0;
         untouched = λ x y. refl;
         refused = λ x. absurd (omega arith);
         accepted = λ x. absurd (omega arith);
@@ -120,62 +111,60 @@ module _ (img : Image) (f : FrameSpec) (a : Lent) where
         nowhere = λ x. refl;
         beyond_is = λ x. absurd (omega arith);
         beyond_none = λ x. refl;
-      }
+      })
 
-  pub rectify_refused : (n : ℕ) (r : PictureFit) → n ≡ lowest_of (rectify_tests img f a) → (n ≡ 0 → ⊥) → r ≡ answer_of (refused_by_test n) → Rectification img f a a r 0
-  rectify_refused zero r e h p = absurd (h refl)
-  rectify_refused (suc n) r e h p = subst (λ (t : PictureFit). Rectification img f a a t 0) (sym p) (refusing (suc n) e (omega arith))
-
-  module _ (b : Areas) (means : List Float) (p : FitReport) (e : lowest_of (rectify_tests img f a) ≡ 0) (h : FitPastTests img f a.areas b a.means means p) where
+  module _ (b : Areas) (means : List Float) (p : PictureFit) (e : lowest_of (rectify_tests img f a) ≡ 0) (h : FitPastTests img f a.areas b a.means means p) where
     -- what the call leaves, where its picture's fit is r in the end
-    abbrev left : FitReport → Lent
-    left r = lent b means (laid_where r.number img f r.stage.fit a.canonical)
+    abbrev left : PictureFit → Lent
+    left r = lent b means (laid_where (number_of r.places) img f r.stage.fit a.canonical)
 
     -- .. and the whole of it with its answer
-    abbrev Rectifies : FitReport → Type 0
-    Rectifies r = Rectification img f a (left r) (answer_of r) (beyond_where r.number img f r.stage.fit)
+    abbrev Rectifies : PictureFit → Type 0
+    Rectifies r = Rectification img f a (left r) r (beyond_where (number_of r.places) img f r.stage.fit)
 
-    lowest_fit : Lowest (Unfitted img f (rectify_tests img f a)) p.number
+    abbrev n : ℕ
+    n = number_of p.places
+
+    lowest_fit : Lowest (Unfitted img f (rectify_tests img f a)) n
     lowest_fit = h.lowest (rectify_tests img f a) (none_tested (rectify_tests img f a) (rising img f short wrong) e)
 
     -- the corners, where there is a fit
-    module _ (z : p.number ≡ 0) where
+    module _ (z : n ≡ 0) where
       abbrev centers : Quad
-      centers = centers_at b.patches p.places
+      centers = centers_at b.patches (corners_named p.places)
 
       centers_mark : MarkedBy img f centers
-      centers_mark = corners_mark img f b.patches h.looked.firsts p.patches p.places (h.corners z)
+      centers_mark = corners_mark img f b.patches h.looked.firsts p.counts.patches (corners_named p.places) (h.corners z)
 
       kept_is : (searched img f centers).kept ≡ p.stage.kept
       kept_is = ap (λ (t : Stage). t.kept) (sym (h.found z))
 
       keeps_some : T (keeps p.stage.kept)
-      keeps_some = subst (λ (o : Outcome). T (keeps o)) kept_is (keeps_one img f (rectify_tests img f a) (rising img f short wrong) p.number z lowest_fit centers centers_mark)
+      keeps_some = subst (λ (o : Outcome). T (keeps o)) kept_is (keeps_one img f (rectify_tests img f a) (rising img f short wrong) n z lowest_fit centers centers_mark)
 
     -- ---- a fit that is refused, or has a score
-    module _ (s : p.number ≡ 0 → unscored p.stage.kept ≡ false) where
-      as_lowest : Lowest (Unrectified img f (rectify_tests img f a)) p.number
-      as_lowest = go (kind p.number)
+    module _ (s : n ≡ 0 → unscored p.stage.kept ≡ false) where
+      as_lowest : Lowest (Unrectified img f (rectify_tests img f a)) n
+      as_lowest = go (kind n)
         where
-          higher : 1 ≤ p.number → Lowest (Unrectified img f (rectify_tests img f a)) p.number
-          higher x = refused_fit img f (rectify_tests img f a) p.number (upto_six img f short wrong) x lowest_fit
+          higher : 1 ≤ n → Lowest (Unrectified img f (rectify_tests img f a)) n
+          higher x = refused_fit img f (rectify_tests img f a) n (upto_six img f short wrong) x lowest_fit
 
-          go : Kind p.number → Lowest (Unrectified img f (rectify_tests img f a)) p.number
+          go : Kind n → Lowest (Unrectified img f (rectify_tests img f a)) n
           go (fine z) =
               subst (Lowest (Unrectified img f (rectify_tests img f a))) (sym z)
-              (scored_fit_lem img f (rectify_tests img f a) (rising img f short wrong) p.number z lowest_fit (centers z) (centers_mark z) (ap unscored (kept_is z) ∙ s z))
+              (scored_fit_lem img f (rectify_tests img f a) (rising img f short wrong) n z lowest_fit (centers z) (centers_mark z) (ap unscored (kept_is z) ∙ s z))
           go (low x y) = higher x
           go (high x) = higher (omega arith)
 
-      most_ten : p.number ≤ 10
+      most_ten : n ≤ 10
       most_ten = go lowest_fit
         where
-          go : Lowest (Unfitted img f (rectify_tests img f a)) p.number → p.number ≤ 10
+          go : Lowest (Unfitted img f (rectify_tests img f a)) n → n ≤ 10
           go (accepted z g) = omega arith
-          go (refused u g) = upto_ten img f (rectify_tests img f a) (upto_six img f short wrong) p.number u
+          go (refused u g) = upto_ten img f (rectify_tests img f a) (upto_six img f short wrong) n u
 
-      seeing : Seen img f a (left p) (answer_of p) p.number
-      unfolding answer_of
+      seeing : Seen img f a (left p) p n
       seeing =
           record {
             looked = h.looked;
@@ -184,8 +173,8 @@ module _ (img : Image) (f : FrameSpec) (a : Lent) where
             best = h.best;
             found = h.found;
             counts = h.counts;
-            laid = λ z. sym (laid_warped p.number img f p.stage.fit a.canonical z);
-            kept = λ z. sym (laid_kept p.number img f p.stage.fit a.canonical (λ y. absurd (omega arith)));
+            laid = λ z. sym (laid_warped n img f p.stage.fit a.canonical z);
+            kept = λ z. sym (laid_kept n img f p.stage.fit a.canonical (λ y. absurd (omega arith)));
             fruitless = h.fruitless;
             scored = λ z. score_kept p.stage.kept (keeps_some z) (s z);
             undecided = λ z. absurd (let y = most_ten in omega arith);
@@ -193,29 +182,28 @@ module _ (img : Image) (f : FrameSpec) (a : Lent) where
           }
 
       rectifying : Rectifies p
-      unfolding answer_of
       rectifying =
           record {
-            number = p.number;
+            number = n;
             given = refl;
             refusal = as_lowest;
-            untouched = λ x y. absurd (let z : 7 ≤ p.number = h.from_seven x in omega arith);
+            untouched = λ x y. absurd (let z : 7 ≤ n = h.from_seven x in omega arith);
             refused = λ x. seeing;
             accepted = λ x. seeing;
-            unseen = λ x y. absurd (let z : 7 ≤ p.number = h.from_seven x in omega arith);
+            unseen = λ x y. absurd (let z : 7 ≤ n = h.from_seven x in omega arith);
             untried = h.untried;
             nowhere = h.nowhere;
-            beyond_is = λ z. sym (beyond_laid p.number img f p.stage.fit z);
-            beyond_none = λ x. sym (beyond_kept p.number img f p.stage.fit (λ y. absurd (omega arith)));
+            beyond_is = λ z. sym (beyond_laid n img f p.stage.fit z);
+            beyond_none = λ x. sym (beyond_kept n img f p.stage.fit (λ y. absurd (omega arith)));
           }
 
     -- ---- a fit without a score
-    module _ (z : p.number ≡ 0) (s : unscored p.stage.kept ≡ true) where
-      abbrev none : FitReport
-      none = record { number = 16; stage = without_fit p.stage; places = no_places; patches = p.patches; candidates = p.candidates; waited = p.waited }
+    module _ (z : n ≡ 0) (s : unscored p.stage.kept ≡ true) where
+      abbrev none : PictureFit
+      none = record { places = Err Unscored; stage = without_fit p.stage; counts = p.counts }
 
-      seeing_unscored : Seen img f a (left none) (answer_of none) 16
-      unfolding answer_of without_fit
+      seeing_unscored : Seen img f a (left none) none 16
+      unfolding without_fit
       seeing_unscored =
           record {
             looked = h.looked;
@@ -234,12 +222,11 @@ module _ (img : Image) (f : FrameSpec) (a : Lent) where
           }
 
       rectifying_unscored : Rectifies none
-      unfolding answer_of
       rectifying_unscored =
           record {
             number = 16;
             given = refl;
-            refusal = unscored_fit_lem img f (rectify_tests img f a) (rising img f short wrong) p.number z lowest_fit (centers z) (centers_mark z) (subst T (sym (ap unscored (kept_is z) ∙ s)) tt);
+            refusal = unscored_fit_lem img f (rectify_tests img f a) (rising img f short wrong) n z lowest_fit (centers z) (centers_mark z) (subst T (sym (ap unscored (kept_is z) ∙ s)) tt);
             untouched = λ x y. absurd (omega arith);
             refused = λ x. seeing_unscored;
             accepted = λ x. absurd (omega arith);
@@ -251,20 +238,18 @@ module _ (img : Image) (f : FrameSpec) (a : Lent) where
           }
 
     -- ---- either
-    either : Rectifies (scored_report p)
-    either = go (eqb p.number 0) (unscored p.stage.kept) refl refl
+    either : Rectifies (scored_fit p)
+    unfolding scored_fit
+    either = go (eqb n 0) (unscored p.stage.kept) refl refl
       where
-        as_found : (eqb p.number 0 && unscored p.stage.kept) ≡ false → (p.number ≡ 0 → unscored p.stage.kept ≡ false) → Rectifies (scored_report p)
-        as_found x s = subst Rectifies (sym (report_scored p x)) (rectifying s)
+        go : (t s : Bool) → eqb n 0 ≡ t → unscored p.stage.kept ≡ s
+            → Rectifies (cond (t && s) (record { places = Err Unscored; stage = without_fit p.stage; counts = p.counts }) p)
+        go true true x y = rectifying_unscored (eqb-true _ _ x) y
+        go true false x y = rectifying (λ z. y)
+        go false s x y = rectifying (λ z. absurd (eqb-false _ _ x z))
 
-        go : (n s : Bool) → eqb p.number 0 ≡ n → unscored p.stage.kept ≡ s → Rectifies (scored_report p)
-        go true true x y = subst Rectifies (sym (report_unscored p (λ i. x i && y i))) (rectifying_unscored (eqb-true _ _ x) y)
-        go true false x y = as_found (λ i. x i && y i) (λ z. y)
-        go false s x y = as_found (λ i. x i && y i) (λ z. absurd (eqb-false _ _ x z))
-
-    pub rectify_reported : (t : FitReport) (canonical : List ℕ) (r : PictureFit) (count : ℕ) → t ≡ scored_report p → canonical ≡ (left t).canonical → r ≡ answer_of t
-        → count ≡ beyond_where t.number img f t.stage.fit → Rectification img f a (lent b means canonical) r count
-    rectify_reported t canonical r count x c q n =
-        subst (Rectification img f a (lent b means canonical) r) (sym n)
-        (subst (λ (z : PictureFit). Rectification img f a (lent b means canonical) z (beyond_where t.number img f t.stage.fit)) (sym q)
-        (subst (λ (y : List ℕ). Rectification img f a (lent b means y) (answer_of t) (beyond_where t.number img f t.stage.fit)) (sym c) (subst Rectifies (sym x) either)))
+    pub rectify_found : {t : PictureFit} {canonical : List ℕ} {count : ℕ} → t ≡ scored_fit p → canonical ≡ (left t).canonical
+        → count ≡ beyond_where (number_of t.places) img f t.stage.fit → Rectification img f a (lent b means canonical) t count
+    rectify_found {t} {canonical} x c q =
+        subst (Rectification img f a (lent b means canonical) t) (sym q)
+        (subst (λ (y : List ℕ). Rectification img f a (lent b means y) t (beyond_where (number_of t.places) img f t.stage.fit)) (sym c) (subst Rectifies (sym x) either))

@@ -4,7 +4,7 @@ use mathlib.Core.List.{List}
 use Prim.Native.Nat.{ℕ, ◌+◌, ◌*◌, ◌/◌, ◌%◌, ◌<◌, ◌≤◌}
 use native.Mathlib.Omega.{arith}
 use lib.Arith.{digits_div, digits_mod}
-use lib.ListN.{set}
+use lib.ListN.{length, set}
 use Rattle.base.specs.Loops.{filled, by_row}
 use Rattle.base.proofs.Plane.{filled_step, filled_end, by_row_lem}
 use Rattle.frame.specs.Image.{Image, channel, byte_of}
@@ -51,5 +51,9 @@ row_byte_lem img fit n y j h =
     mul_assoc' = sym (mul_assoc y 3 n) ∙ ap (λ k. k * n) (mul_comm y 3) ∙ mul_assoc 3 y n
 
 -- a row lies within its image
-pub row_fits : (y h s : ℕ) → y < h → y * s + s ≤ s * h
+row_fits : (y h s : ℕ) → y < h → y * s + s ≤ s * h
 row_fits y h s b = omega (arith, row_end y s, product_le (y + 1) s h s (omega arith) (omega arith), mul_comm h s)
+
+-- row y lies within an image of rows of n pixels
+pub row_room : (y n h : ℕ) (l c : List ℕ) → y < h → length l ≡ 3 * n * h → length c ≡ length l → y * (3 * n) + 3 * n ≤ length c
+row_room y n h l c b e k = omega (arith, row_fits y h (3 * n) b)

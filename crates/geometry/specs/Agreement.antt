@@ -3,7 +3,7 @@
 -- what `rectify` promises. Assumes nothing.
 use Rattle.std.specs.Prelude.{ℕ, ◌≡◌}
 use Rattle.frame.specs.Image.{Image}
-use Rattle.frame.specs.declared.Verdict.TheVariants.{Accepted}
+use Rattle.frame.specs.Refusals.{number_of}
 use Rattle.fit_geometry.specs.Agreement.{SameFit}
 use Rattle.fit_geometry.specs.declared.PictureFit.{PictureFit}
 use Rattle.geometry.specs.Rectification.{Lent}
@@ -14,4 +14,4 @@ pub record Agreement (img : Image) (b b' : Lent) (r r' : PictureFit) (beyond bey
   pub fit : SameFit img b.areas b'.areas r r' refusal
   pub beyond_same : beyond ≡ beyond'
   -- the canonical image; a refused call leaves each as it was
-  pub canonical : r.verdict ≡ Accepted → b.canonical ≡ b'.canonical
+  pub canonical : number_of r.places ≡ 0 → b.canonical ≡ b'.canonical

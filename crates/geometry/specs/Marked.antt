@@ -1,26 +1,25 @@
 -- [14.5] the marked examples M1 to M12 are one theorem over the meanings; [15.1] each field has the example that it
 -- stands for, over the definitions that the public functions' contracts cite.
 -- proofs/Marked has the proof. Assumes nothing.
-use Rattle.std.specs.Prelude.{◌≡◌, true, false, List, [], ◌∷◌, ℕ, eqb, Float}
+use Rattle.std.specs.Prelude.{◌≡◌, true, false, List, [], ◌∷◌, ℕ, eqb, Float, Result, Ok, Err}
 use Rattle.std.specs.Float.Ieee.{neg, lt}
 use Rattle.base.specs.Loops.{table}
 use Rattle.float.specs.Floats.{◌⊖◌, ◌⊘◌, f64, d64, round_of}
-use Rattle.frame.specs.Answers.{number_for}
+use Rattle.frame.specs.Refusals.{answer_for}
 use Rattle.frame.specs.declared.FrameSpec.{FrameSpec}
-use Rattle.frame.specs.declared.Number.TheVariants.{Is}
 use Rattle.frame.specs.declared.Point.{Point}
-use Rattle.markers.specs.Answers.{centers_for}
+use Rattle.frame.specs.declared.Quad.{Quad}
+use Rattle.frame.specs.declared.refusals.Refusal.{Refusal}
+use Rattle.frame.specs.declared.refusals.Refusal.TheVariants.{NoLayout}
 use Rattle.markers.specs.Promises.{cell_tests, layout_tests}
 use Rattle.markers.specs.Layout.{marker_size, quiet_zone, margin_for, marker_centers}
-use Rattle.markers.specs.declared.Centers.{Centers}
-use Rattle.markers.specs.declared.Centers.TheVariants.{Are, Refused}
 use Rattle.blobs.specs.Areas.{PatchAreas}
 use Rattle.blobs.specs.Labels.{Labels}
 use Rattle.blobs.specs.Patches.{patch_at, PatchList}
 use Rattle.blobs.specs.declared.Blob.{Blob}
 use Rattle.candidates.specs.Ring.{share_of, enough}
 use Rattle.candidates.specs.declared.Tally.{Tally}
-use Rattle.radial.specs.Lens.{new_lens, lens_refusal, lens_value}
+use Rattle.radial.specs.Lens.{radial, new_lens}
 
 abbrev pub frame : ℕ → ℕ → ℕ → ℕ → FrameSpec
 frame width height cell margin = record { width = width; height = height; cell = cell; margin = margin }
@@ -29,8 +28,8 @@ abbrev pub at : ℕ → ℕ → Point
 at x y = record { x = f64 x; y = f64 y }
 
 -- what `marker_centers` answers
-abbrev pub centers : FrameSpec → Centers
-centers f = centers_for (layout_tests f) (marker_centers f)
+abbrev pub centers : FrameSpec → Result Quad Refusal
+centers f = answer_for (layout_tests f) (marker_centers f)
 
 -- `#.#`, `.#.`, `##.`
 abbrev pub mask7 : List ℕ
@@ -71,25 +70,25 @@ Apart s =
 pub record Marked : Type 0 where
   -- M1 cell 9: 72, 12, 96 (`marker_size`, `quiet_zone`, `margin_for`)
   pub m1 :
-      (number_for (cell_tests 9) (marker_size 9) ≡ Is 72)
-      × (number_for (cell_tests 9) (quiet_zone 9) ≡ Is 12)
-      × (number_for (cell_tests 9) (margin_for 9) ≡ Is 96)
+      (answer_for (cell_tests 9) (marker_size 9) ≡ Ok 72)
+      × (answer_for (cell_tests 9) (quiet_zone 9) ≡ Ok 12)
+      × (answer_for (cell_tests 9) (margin_for 9) ≡ Ok 96)
   -- M2 cell 10: 80, 13, 106
   pub m2 :
-      (number_for (cell_tests 10) (marker_size 10) ≡ Is 80)
-      × (number_for (cell_tests 10) (quiet_zone 10) ≡ Is 13)
-      × (number_for (cell_tests 10) (margin_for 10) ≡ Is 106)
+      (answer_for (cell_tests 10) (marker_size 10) ≡ Ok 80)
+      × (answer_for (cell_tests 10) (quiet_zone 10) ≡ Ok 13)
+      × (answer_for (cell_tests 10) (margin_for 10) ≡ Ok 106)
   -- M3 cell 13: 96, 16, 128
   pub m3 :
-      (number_for (cell_tests 13) (marker_size 13) ≡ Is 96)
-      × (number_for (cell_tests 13) (quiet_zone 13) ≡ Is 16)
-      × (number_for (cell_tests 13) (margin_for 13) ≡ Is 128)
+      (answer_for (cell_tests 13) (marker_size 13) ≡ Ok 96)
+      × (answer_for (cell_tests 13) (quiet_zone 13) ≡ Ok 16)
+      × (answer_for (cell_tests 13) (margin_for 13) ≡ Ok 128)
   -- M4 frame 192 by 192, cell 1, margin 48: centres 24 and 168
   pub m4 : centers (frame 192 192 1 48)
-      ≡ Are (record { tl = at 24 24; tr = at 168 24; br = at 168 168; bl = at 24 168 })
+      ≡ Ok (record { tl = at 24 24; tr = at 168 24; br = at 168 168; bl = at 24 168 })
   -- M5 margin 47, M6 width 191: refusal 5
-  pub m5 : centers (frame 192 192 1 47) ≡ Refused 5
-  pub m6 : centers (frame 191 192 1 48) ≡ Refused 5
+  pub m5 : centers (frame 192 192 1 47) ≡ Err NoLayout
+  pub m6 : centers (frame 191 192 1 48) ≡ Err NoLayout
   -- M7 the mask of [15.2]: its list, by the meaning of a patch, with the first pixels 0, 2 and 4, and no other; [24.4]
   -- "the lines end in 4, 4 and 8"
   pub m7 : PatchList mask7 3 list7 list7 3 (0 ∷ 2 ∷ 4 ∷ []) × Labelled mask7 (blob 1 0 0 0 0 0 0 4
@@ -103,6 +102,6 @@ pub record Marked : Type 0 where
   -- M10 7 of 9 do not
   pub m10 : (s : Tally) → Agreed 7 9 s → enough (share_of s) ≡ false
   -- M11 capture 60 by 80: norm 50
-  pub m11 : (k : Float) → (lens_refusal (new_lens 60 80 k) ≡ 0) × ((lens_value (new_lens 60 80 k)).norm ≡ f64 50)
+  pub m11 : (k : Float) → (new_lens 60 80 k ≡ Ok (radial 60 80 k)) × ((radial 60 80 k).norm ≡ f64 50)
   -- M12 round(2.5) = 3, round(−0.5) = −1
   pub m12 : (round_of (d64 25 10) ≡ f64 3) × (round_of (neg (d64 5 10)) ≡ neg (f64 1))

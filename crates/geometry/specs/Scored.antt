@@ -1,14 +1,12 @@
 -- What the score of an accepted card says, which number a record gets, and which card: theorems that a reader can cite
 -- (requirements, 21). proofs/Scored shows them. Assumes nothing.
-use Rattle.std.specs.Prelude.{ℕ, ◌≤◌, ◌<◌, ◌≡◌, List, T, length, get_or}
+use Rattle.std.specs.Prelude.{ℕ, ◌≤◌, ◌<◌, ◌≡◌, List, T, length, get_or, Result, Ok}
 use Rattle.std.specs.Float.{nan, binary64}
 use Rattle.std.specs.Float.Ieee.{fits}
 use Rattle.frame.specs.Image.{Image}
-use Rattle.frame.specs.Refusals.{lowest_of}
+use Rattle.frame.specs.Refusals.{number_of, lowest_of}
 use Rattle.frame.specs.declared.FrameSpec.{FrameSpec}
-use Rattle.frame.specs.declared.Number.{Number}
-use Rattle.frame.specs.declared.Number.TheVariants.{Is}
-use Rattle.frame.specs.declared.Verdict.TheVariants.{Accepted}
+use Rattle.frame.specs.declared.refusals.Refusal.{Refusal}
 use Rattle.fit.specs.Promises.{sampled_cells}
 use Rattle.fit.specs.First.{Sampled, HasTapOutside}
 use Rattle.fit.specs.Grid.{fisher}
@@ -28,10 +26,10 @@ abbrev pub AcceptedScored : Type 0
 AcceptedScored =
     (img : Image) (f : FrameSpec) (a b : Lent) (r : PictureFit) (beyond : ℕ)
     → Rectification img f a b r beyond
-    → r.verdict ≡ Accepted
+    → number_of r.places ≡ 0
     → (16 ≤ sampled_cells f)
-    × ((column row : ℕ) → Sampled f column row → HasTapOutside img f r.fit column row → ⊥)
-    × (r.kept ≡ Graded (Score (fisher img f r.fit (sampled_cells f))))
+    × ((column row : ℕ) → Sampled f column row → HasTapOutside img f r.stage.fit column row → ⊥)
+    × (r.stage.kept ≡ Graded (Score (fisher img f r.stage.fit (sampled_cells f))))
 
 -- [21.8] what `warp_record` is refused by, and 0 where it is not: what refuses `warp_with`, 1 to 4, next 16 for "any
 -- grade but 0"
@@ -50,12 +48,12 @@ RecordGiven =
 abbrev pub RecordLays : Type 0
 RecordLays =
     (img : Image) (f : FrameSpec) (a b : Lent) (r : PictureFit) (beyond panel camera : ℕ) (g : Grade) (c c' : List ℕ)
-    (n : Number)
+    (n : Result ℕ Refusal)
     → Rectification img f a b r beyond
-    → r.verdict ≡ Accepted
-    → r.kept ≡ Graded g
-    → length r.fit.h.m ≡ 9
-    → ((i : ℕ) → i < 13 → T (fits binary64 (get_or (fit_numbers r.fit) i nan)))
+    → number_of r.places ≡ 0
+    → r.stage.kept ≡ Graded g
+    → length r.stage.fit.h.m ≡ 9
+    → ((i : ℕ) → i < 13 → T (fits binary64 (get_or (fit_numbers r.stage.fit) i nan)))
     → length c ≡ canonical_length f
-    → RecordWarping img f (record_of panel camera g r.fit) c c' n
-    → (n ≡ Is beyond) × (c' ≡ b.canonical)
+    → RecordWarping img f (record_of panel camera g r.stage.fit) c c' n
+    → (n ≡ Ok beyond) × (c' ≡ b.canonical)

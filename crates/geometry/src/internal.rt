@@ -1,26 +1,25 @@
 // The warp and the tests of `rectify`, for callers that have made theirs.
-ghost use Rattle.std.specs.Prelude.{◌≡◌, false, cond, not, ◌+◌, ◌*◌, ◌<◌, eqb, length};
+ghost use Rattle.std.specs.Prelude.{◌≡◌, false, not, ◌+◌, ◌*◌, ◌<◌, eqb, length};
 ghost use Rattle.base.specs.Loops.{filled};
 ghost use Rattle.float.specs.Floats.{◌⊕◌, f64, d64};
 ghost use Rattle.frame.specs.Image.{image};
 ghost use Rattle.frame.specs.Limits.{FrameHeld, CaptureHeld};
-ghost use Rattle.frame.specs.Refusals.{lowest_of, frame_outside};
+ghost use Rattle.frame.specs.Refusals.{number_of, lowest_of, frame_outside};
 ghost use Rattle.candidates.specs.Areas.{picture_tests};
 ghost use Rattle.fit_geometry.specs.Promises.{fit_short};
 ghost use Rattle.geometry.specs.Warp.{reading, row_byte, warped, inside_at, row_beyond, beyond};
-ghost use Rattle.geometry.specs.Promises.{canonical_length, canonical_wrong};
+ghost use Rattle.geometry.specs.Promises.{canonical_length, canonical_wrong, warp_tests};
 ghost use Rattle.geometry.specs.Rectification as spec;
 
 use candidates::Lengths;
 use candidates::internal::{areas_short, picture_refused};
-use fiducials::internal::no_places;
 use fit::internal::no_fit;
 use fit::{GeometryFit, Grade};
-use fit_geometry::FitReport;
+use fit_geometry::PictureFit;
 use fit_geometry::internal::means_short;
 use float::internal::to_f64;
-use frame::internal::frame_outside;
-use frame::{FrameSpec, Point};
+use frame::internal::{capture_wrong, frame_outside};
+use frame::{FrameSpec, Point, Refusal};
 use sampling::Sample;
 use search::{Outcome, Stage};
 
@@ -35,21 +34,19 @@ fn center(n: usize) -> f64
 // The canonical pixel in column x and row y: the reading where the fit puts its centre, and whether
 // that is inside the picture. Two calls and not `sample`, so that the compiled loop of the warp
 // keeps no sample in memory: docs/BENCHMARK.md.
+#[tactic(auto, unfolding(crate::specs::Warp::pixel_place, crate::specs::Warp::reading, crate::specs::Warp::inside_at))]
 fn pixel(capture: &[u8], w: usize, h: usize, fit: GeometryFit, x: usize, y: usize) -> Sample
     requires { CaptureHeld (image w h capture.now) × (x < 4096) × (y < 4096) }
     ensures { (result.colour ≡ reading (image w h capture.now) fit x y) × (result.inside
         ≡ inside_at (image w h capture.now) fit x y) }
 {
-    let c = Point {
+    let p = fit.map(Point {
         x: center(x),
         y: center(y),
-    };
-    let p = fit.map(c);
-    let colour = sampling::internal::reading(capture, w, h, p);
-    let within = sampling::internal::inside(w, h, p.x, p.y);
+    });
     Sample {
-        colour: colour,
-        inside: within,
+        colour: sampling::internal::reading(capture, w, h, p),
+        inside: sampling::internal::inside(w, h, p.x, p.y),
     }
 }
 
@@ -68,25 +65,17 @@ pub fn warp_row(
     ensures { (result ≡ row_beyond (image w h capture.now) frame fit y) × (row.new
         ≡ filled (row_byte (image w h capture.now) fit y) (3 * frame.width) row.old) }
 {
-    let width = frame.width;
     let mut count: usize = 0;
-    for x in 0..width {
+    for x in 0..frame.width {
         let s = pixel(capture, w, h, fit, x, y);
         let c = s.colour;
         let i = x * 3;
         row[i] = c.r;
         row[i + 1] = c.g;
         row[i + 2] = c.b;
-        count += not_inside(s.inside);
+        count += (!s.inside) as usize;
     }
     count
-}
-
-// 1 of a position that is not inside, else 0.
-fn not_inside(inside: bool) -> usize
-    ensures { result ≡ cond inside 0 1 }
-{
-    (!inside) as usize
 }
 
 // The canonical image, a row at a time; the number of its pixels whose position was not inside.
@@ -103,11 +92,9 @@ pub fn warp(
     ensures { (result ≡ beyond (image w h capture.now) frame fit) × (canonical.new
         ≡ warped (image w h capture.now) frame fit canonical.old) }
 {
-    let width = frame.width;
-    let size = 3 * width;
-    let height = frame.height;
+    let size = 3 * frame.width;
     let mut count: usize = 0;
-    for y in 0..height {
+    for y in 0..frame.height {
         let start = y * size;
         let end = start + size;
         count += warp_row(capture, w, h, frame, fit, y, &mut canonical[start..end]);
@@ -123,9 +110,33 @@ pub fn canonical_wrong(frame: FrameSpec, n: usize) -> bool
     n != 3 * frame.width * frame.height
 }
 
+// The refusals 1, 2 and 4 of a warp.
+#[tactic(auto, using(frame::proofs::Held::frame_held), unfolding(crate::specs::Promises::warp_tests, crate::specs::Promises::canonical_wrong, frame::specs::Refusals::lowest_of))]
+pub fn warp_refused(
+    capture: &[u8],
+    w: usize,
+    h: usize,
+    frame: FrameSpec,
+    canonical: &[u8],
+) -> Result<(), Refusal>
+    ensures { number_of result ≡ lowest_of (warp_tests (image w h capture.now) frame canonical.now) }
+{
+    if frame_outside(frame) {
+        return Err(Refusal::FrameOutside);
+    }
+    if capture_wrong(capture, w, h) {
+        return Err(Refusal::CaptureWrong);
+    }
+    if canonical_wrong(frame, canonical.len()) {
+        return Err(Refusal::CanonicalWrong);
+    }
+    Ok(())
+}
+
 // ---- rectify
 
 // Refusal 4; false where the frame is outside its limits: 1 goes before 4.
+#[tactic(auto, using(frame::proofs::Held::frame_held), unfolding(crate::specs::Promises::canonical_wrong))]
 fn canonical_refused(frame: FrameSpec, n: usize) -> bool
     ensures { frame_outside frame ≡ false → result ≡ canonical_wrong frame n }
 {
@@ -135,7 +146,7 @@ fn canonical_refused(frame: FrameSpec, n: usize) -> bool
     canonical_wrong(frame, n)
 }
 
-// The lowest number of the tests of `rectify` that applies, or 0.
+// The lowest refusal of the tests of `rectify` that applies.
 pub fn refused(
     capture: &[u8],
     w: usize,
@@ -144,8 +155,8 @@ pub fn refused(
     lengths: Lengths,
     means: usize,
     canonical: usize,
-) -> u32
-    ensures { result ≡ lowest_of (picture_tests (image w h capture.now) frame
+) -> Result<(), Refusal>
+    ensures { number_of result ≡ lowest_of (picture_tests (image w h capture.now) frame
         (fit_short (image w h capture.now) frame lengths means) (canonical_wrong frame canonical)) }
 {
     let short = areas_short(w, h, lengths) | means_short(frame, means);
@@ -154,51 +165,38 @@ pub fn refused(
 }
 
 // A kept trial without a score.
+#[tactic(auto, unfolding(crate::specs::Rectification::unscored))]
 fn unscored(kept: Outcome) -> bool
     ensures { result ≡ spec.unscored kept }
 {
     match kept {
-        Outcome::NoHomography => false,
-        Outcome::Graded(g) => match g {
-            Grade::Score(_) => false,
-            Grade::Outside(_) => true,
-            Grade::TooFew => true,
-        },
+        Outcome::NoHomography | Outcome::Graded(Grade::Score(_)) => false,
+        Outcome::Graded(Grade::Outside(_)) => true,
+        Outcome::Graded(Grade::TooFew) => true,
     }
 }
 
 // What a search kept and counted, without its fit.
+#[tactic(auto, unfolding(crate::specs::Rectification::without_fit))]
 fn without_fit(stage: Stage) -> Stage
     ensures { result ≡ spec.without_fit stage }
 {
-    let kept = stage.kept;
-    let fit = no_fit();
     Stage {
-        kept: kept,
-        fit: fit,
-        tried: stage.tried,
-        homographies: stage.homographies,
+        fit: no_fit(),
+        ..stage
     }
 }
 
-// Refusal 16 of a picture that has a fit: the kept trial is unscored. Then there is no fit, and the
-// places are 0.
-pub fn scored(picture: FitReport) -> FitReport
-    ensures { result ≡ spec.scored_report picture }
+// Refusal 16 of a picture that has a fit: the kept trial is unscored. Then there is no fit.
+#[tactic(auto, unfolding(crate::specs::Rectification::scored_fit))]
+pub fn scored(picture: PictureFit) -> PictureFit
+    ensures { result ≡ spec.scored_fit picture }
 {
-    let number = picture.number;
-    let stage = picture.stage;
-    let kept = stage.kept;
-    if (number == 0) & unscored(kept) {
-        let places = no_places();
-        let found = without_fit(stage);
-        return FitReport {
-            number: 16,
-            stage: found,
-            places: places,
-            patches: picture.patches,
-            candidates: picture.candidates,
-            waited: picture.waited,
+    if picture.places.is_ok() & unscored(picture.stage.kept) {
+        return PictureFit {
+            places: Err(Refusal::Unscored),
+            stage: without_fit(picture.stage),
+            ..picture
         };
     }
     picture
@@ -211,20 +209,17 @@ pub fn lay(
     w: usize,
     h: usize,
     frame: FrameSpec,
-    picture: FitReport,
+    picture: PictureFit,
     canonical: &mut [u8],
 ) -> usize
     requires { CaptureHeld (image w h capture.now) × FrameHeld frame × (length canonical.old
         ≡ canonical_length frame) }
-    ensures { (result ≡ spec.beyond_where picture.number (image w h capture.now) frame
-        picture.stage.fit) × (canonical.new ≡ spec.laid_where picture.number
+    ensures { (result ≡ spec.beyond_where (number_of picture.places) (image w h capture.now) frame
+        picture.stage.fit) × (canonical.new ≡ spec.laid_where (number_of picture.places)
         (image w h capture.now) frame picture.stage.fit canonical.old) }
 {
-    let number = picture.number;
-    if number != 0 {
-        return 0;
+    match picture.places {
+        Err(_) => 0,
+        Ok(_) => warp(capture, w, h, frame, picture.stage.fit, canonical),
     }
-    let stage = picture.stage;
-    let fit = stage.fit;
-    warp(capture, w, h, frame, fit, canonical)
 }

@@ -10,10 +10,9 @@ use book::FitRecord;
 use candidates::Lengths;
 use fit::GeometryFit;
 use fit_geometry::PictureFit;
-use fit_geometry::internal::{answer, fit_picture, refused_by_test};
-use frame::internal::{capture_wrong, frame_outside};
-use frame::{FrameSpec, Number};
-use internal::{canonical_wrong, lay, refused, scored, warp};
+use fit_geometry::internal::{fit_picture, refused_by_test};
+use frame::{FrameSpec, Refusal};
+use internal::{lay, refused, scored, warp, warp_refused};
 
 pub mod internal;
 
@@ -34,20 +33,12 @@ pub fn warp_with(
     frame: FrameSpec,
     fit: GeometryFit,
     canonical: &mut [u8],
-) -> Number
+) -> Result<usize, Refusal>
     ensures { Warping (image w h capture.now) frame fit canonical.old
         canonical.new result }
 {
-    if frame_outside(frame) {
-        return Number::Refused(1);
-    }
-    if capture_wrong(capture, w, h) {
-        return Number::Refused(2);
-    }
-    if canonical_wrong(frame, canonical.len()) {
-        return Number::Refused(4);
-    }
-    Number::Is(warp(capture, w, h, frame, fit, canonical))
+    warp_refused(capture, w, h, frame, canonical)?;
+    Ok(warp(capture, w, h, frame, fit, canonical))
 }
 
 // The same under the fit that a book's record keeps; its panel and camera are not looked at. A
@@ -59,24 +50,15 @@ pub fn warp_record(
     frame: FrameSpec,
     kept: FitRecord,
     canonical: &mut [u8],
-) -> Number
+) -> Result<usize, Refusal>
     ensures { RecordWarping (image w h capture.now) frame kept canonical.old
         canonical.new result }
 {
-    if frame_outside(frame) {
-        return Number::Refused(1);
-    }
-    if capture_wrong(capture, w, h) {
-        return Number::Refused(2);
-    }
-    if canonical_wrong(frame, canonical.len()) {
-        return Number::Refused(4);
-    }
+    warp_refused(capture, w, h, frame, canonical)?;
     if kept.grade != 0 {
-        return Number::Refused(16);
+        return Err(Refusal::Unscored);
     }
-    let fit = kept.fit();
-    Number::Is(warp(capture, w, h, frame, fit, canonical))
+    Ok(warp(capture, w, h, frame, kept.fit(), canonical))
 }
 
 // Finds the card in a capture and lays it flat. Refusals 1 to 10, and 16 for a fit whose kept trial
@@ -116,11 +98,9 @@ pub fn rectify(
         candidates: candidates.len(),
         blob_index: blob_index.len(),
     };
-    let number = refused(capture, w, h, frame, lengths, means.len(), canonical.len());
-    if number != 0 {
-        let refusal = refused_by_test(number);
+    if let Err(refusal) = refused(capture, w, h, frame, lengths, means.len(), canonical.len()) {
         return Rectified {
-            picture: refusal,
+            picture: refused_by_test(refusal),
             beyond: 0,
         };
     }
@@ -128,11 +108,7 @@ pub fn rectify(
         capture, w, h, frame, luma, integral, mask, seen, waiting, patches, candidates, blob_index,
         means,
     );
-    let report = scored(found);
-    let beyond = lay(capture, w, h, frame, report, canonical);
-    let picture = answer(report);
-    Rectified {
-        picture: picture,
-        beyond: beyond,
-    }
+    let picture = scored(found);
+    let beyond = lay(capture, w, h, frame, picture, canonical);
+    Rectified { picture, beyond }
 }

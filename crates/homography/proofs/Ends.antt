@@ -1,21 +1,23 @@
 -- The ends of `apply`, `inverse`, `from_points` and `rms_error`, from what their callees give. Assumes nothing.
 use mathlib.Core.Path.{◌≡◌, refl, sym, ap, ◌∙◌}
-use mathlib.Core.Bool.{Bool, true, false}
+use mathlib.Core.Bool.{Bool, true, false, cond}
 use mathlib.Core.List.{List, [], ◌∷◌, ◌++◌}
+use Prim.Native.Nat.{ℕ}
+use native.Mathlib.Omega.{arith}
 use lib.Ieee.{Float, lt}
-use Rattle.base.specs.Loops.{turns, table, filled}
+use Rattle.std.specs.Prelude.{Some, None}
 use Rattle.base.proofs.Pick.{pick_yes, pick_no}
 use Rattle.float.specs.Floats.{◌⊕◌, ◌⊘◌, f64, tiny, abs_of}
 use Rattle.float.specs.Root.{sqrt_of}
 use Rattle.frame.specs.declared.Point.{Point}
 use Rattle.frame.specs.declared.Quad.{Quad}
-use Rattle.frame.specs.declared.Verdict.TheVariants.{Accepted, Refused}
+use Rattle.frame.specs.declared.refusals.Refusal.TheVariants.{NoHomography, Singular}
 use Rattle.homography.specs.declared.Homography.{Homography}
 use Rattle.homography.specs.declared.Solved.{Solved}
 use Rattle.homography.specs.Arithmetic.{rounded}
-use Rattle.homography.specs.Elimination.{solvable, solution, last_column}
-use Rattle.homography.specs.Equations.{equations, homography_over, identity, has_homography, homography, from_points}
-use Rattle.homography.specs.Inner.{unknowns, with_one}
+use Rattle.homography.specs.Elimination.{solvable, solution}
+use Rattle.homography.specs.Equations.{equations, homography_over, found, refused, has_homography, homography, from_points}
+use Rattle.homography.specs.Inner.{unknowns}
 use Rattle.homography.specs.Homography.{row_times, divisor, apply, product_at, adjugate, determinant, singular, quotients, inverse, apart, rms_error}
 
 pub applied :
@@ -25,9 +27,9 @@ pub applied :
 unfolding apply
 applied h p x y z w e f g i = cc
 
--- the answer that carries the matrix m
-abbrev pub found : List Float → Solved
-found m = record { verdict = Accepted; h = record { m = m } }
+-- the answer with the entries m
+abbrev pub matrix : List Float → Solved
+matrix m = found (record { m = m })
 
 -- c and d are what `cofactors` gives and the determinant along the first row
 module _ (h : Homography) (c : List Float) (d : Float) (e : c ≡ adjugate h.m) (f : d ≡ product_at h.m c 0 0) where
@@ -35,33 +37,34 @@ module _ (h : Homography) (c : List Float) (d : Float) (e : c ≡ adjugate h.m) 
   unfolding determinant
   along = f ∙ ap (λ b. product_at h.m b 0 0) e
 
-  pub inverse_refused : lt (abs_of d) tiny ≡ true → record { verdict = Refused 11; h = identity } ≡ inverse h
+  pub inverse_refused : lt (abs_of d) tiny ≡ true → refused Singular ≡ inverse h
   unfolding inverse singular
   inverse_refused t = pick_yes _ _ _ (ap (λ x. lt (abs_of x) tiny) (sym along) ∙ t)
 
-  pub inverse_found : (q : List Float) → lt (abs_of d) tiny ≡ false → q ≡ quotients c d → found q ≡ inverse h
+  pub inverse_found : (q : List Float) → lt (abs_of d) tiny ≡ false → q ≡ quotients c d → found (record { m = q }) ≡ inverse h
   unfolding inverse singular
   inverse_found q t g =
-      ap found (g ∙ ap (quotients c) along ∙ ap (λ b. quotients b (determinant h.m)) e)
+      ap matrix (g ∙ ap (quotients c) along ∙ ap (λ b. quotients b (determinant h.m)) e)
       ∙ pick_no _ _ _ (ap (λ x. lt (abs_of x) tiny) (sym along) ∙ t)
 
-one_behind : (a : List Float) → with_one (solution rounded a) ≡ solution rounded a ++ (f64 1 ∷ [])
-unfolding with_one filled turns solution last_column table
-one_behind a = refl
-
--- ok and t are what `solve8` gives for the equations
-module _ (src dst : Quad) (a t : List Float) (ok : Bool) (p : a ≡ equations src dst) (q : ok ≡ solvable rounded a) where
-  pub points_found : (m : List Float) → ok ≡ true → t ≡ unknowns a → m ≡ with_one t → found m ≡ from_points src dst
+-- what `solve8` gives for the equations
+module _ (src dst : Quad) where
+  pub points_found : (t : List Float) → Some t ≡ unknowns (equations src dst) → matrix (t ++ (f64 1 ∷ [])) ≡ from_points src dst
   unfolding from_points has_homography homography homography_over equations unknowns
-  points_found m e s f =
-      let v : solvable rounded (equations src dst) ≡ true = ap (solvable rounded) (sym p) ∙ sym q ∙ e in
-      let u : unknowns (equations src dst) ≡ solution rounded (equations src dst) = sym (pick_yes _ _ _ v) in
-      let w : m ≡ solution rounded (equations src dst) ++ (f64 1 ∷ []) = f ∙ ap with_one (s ∙ ap unknowns p ∙ u) ∙ one_behind (equations src dst) in
-      ap found w ∙ pick_yes _ _ _ v
+  points_found t = go (solvable rounded (equations src dst))
+    where
+      go : (b : Bool) → Some t ≡ cond b (Some (solution rounded (equations src dst))) None
+          → matrix (t ++ (f64 1 ∷ [])) ≡ cond b (matrix (solution rounded (equations src dst) ++ (f64 1 ∷ []))) (refused NoHomography)
+      go true e = let d : t ≡ solution rounded (equations src dst) = cc in ap (λ z. matrix (z ++ (f64 1 ∷ []))) d
+      go false e = let z : ◌≡◌ {A = ℕ} 0 1 = cc in absurd (omega arith)
 
-  pub points_refused : ok ≡ false → record { verdict = Refused 10; h = identity } ≡ from_points src dst
-  unfolding from_points has_homography
-  points_refused e = pick_no _ _ _ (ap (solvable rounded) (sym p) ∙ sym q ∙ e)
+  pub points_refused : None ≡ unknowns (equations src dst) → refused NoHomography ≡ from_points src dst
+  unfolding from_points has_homography unknowns
+  points_refused = go (solvable rounded (equations src dst))
+    where
+      go : (b : Bool) → None ≡ cond b (Some (solution rounded (equations src dst))) None → refused NoHomography ≡ cond b (found (homography src dst)) (refused NoHomography)
+      go true e = let z : ◌≡◌ {A = ℕ} 0 1 = cc in absurd (omega arith)
+      go false e = refl
 
 pub rms_is :
     (a b : Quad) (s t u v r : Float)

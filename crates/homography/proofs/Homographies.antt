@@ -1,5 +1,5 @@
 -- Over a field the matrix of `from_points` takes each source to its own target, and the quotients of its lines are the target. Assumes nothing.
-use mathlib.Core.Path.{◌≡◌, refl, ap, ◌∙◌}
+use mathlib.Core.Path.{refl, ap, ◌∙◌}
 use Prim.Native.Nat.{ℕ}
 use lib.ListN.{get_or}
 use Rattle.homography.specs.Elimination.{entry, solution}

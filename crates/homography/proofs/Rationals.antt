@@ -6,7 +6,7 @@ use mathlib.Core.Quot.Quotient
 use Prim.Native.Nat.{ℕ, zero, suc, ◌+◌, ◌*◌, ◌<◌}
 use native.Mathlib.Decide.{ℕ_discrete}
 use native.Mathlib.Omega.{arith}
-use lib.Dec.{T, eqb, lit<, eqb→eq}
+use lib.Dec.{T, lit<, eqb→eq}
 use lib.IntN.{ℤ, pos, negsuc}
 use Rattle.homography.specs.Arithmetic.{CommutativeRing, Field}
 use Rattle.homography.specs.Fractions.{Fraction, Same, fraction, product, reciprocal_of, top, above, below, top_is}

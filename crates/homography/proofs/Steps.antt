@@ -4,11 +4,11 @@ use mathlib.Core.Bool.{true, false, not, ◌&&◌}
 use mathlib.Core.List.{List}
 use Prim.Native.Nat.{ℕ, ◌+◌, ◌≤◌}
 use lib.Ieee.{Float, lt}
-use lib.ListN.{replicate}
+use Rattle.std.specs.Prelude.{Some, None}
 use Rattle.base.specs.Loops.{turns}
 use Rattle.base.proofs.Turns.{turns_leave}
 use Rattle.base.proofs.Pick.{pick_yes, pick_no}
-use Rattle.float.specs.Floats.{f64, abs_of}
+use Rattle.float.specs.Floats.{abs_of}
 use Rattle.homography.specs.Arithmetic.{rounded}
 use Rattle.homography.specs.Elimination.{entry, better, pivot_of, swapped, divided, clear_at, Elimination, eliminate, eliminated, no_pivot, cleared, solvable, solution, last_column}
 use Rattle.homography.specs.Inner.{unknowns}
@@ -54,16 +54,13 @@ stays a col = refl
 -- a column without pivot is the end
 pub halted :
     (a₀ a : List Float) (col : ℕ) → on a ≡ turns col (eliminate rounded) (on a₀) → col + 1 ≤ 8 → no_pivot rounded a col ≡ true
-    → (false ≡ solvable rounded a₀) × (replicate 8 (f64 0) ≡ unknowns a₀)
+    → None ≡ unknowns a₀
 unfolding solvable eliminated unknowns
 halted a₀ a col e h r =
-    let s : solvable rounded a₀ ≡ false = ap (λ t. t.going) (turns_leave (eliminate rounded) (on a₀) (off a) (stays a) col 8 e (stops a col r) h) in
-    (sym s, pick_no _ _ _ s)
+    pick_no _ _ _ (ap (λ t. t.going) (turns_leave (eliminate rounded) (on a₀) (off a) (stays a) col 8 e (stops a col r) h))
 
 -- every column had one
-pub finished : (a₀ a : List Float) → on a ≡ eliminated rounded a₀ → (true ≡ solvable rounded a₀) × (last_column rounded a ≡ unknowns a₀)
+pub finished : (a₀ a : List Float) → on a ≡ eliminated rounded a₀ → Some (last_column rounded a) ≡ unknowns a₀
 unfolding solvable solution unknowns
-finished a₀ a e = (
-  ap (λ t. t.going) e,
-  ap (λ t. last_column rounded t.matrix) e ∙ pick_yes _ _ _ (sym (ap (λ t. t.going) e)),
-)
+finished a₀ a e =
+    ap (λ t. Some (last_column rounded t.matrix)) e ∙ pick_yes _ _ _ (sym (ap (λ t. t.going) e))

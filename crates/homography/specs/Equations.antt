@@ -1,11 +1,12 @@
 -- The direct linear transform with last entry 1 (Hartley and Zisserman), and `from_points`. Each definition is written
 -- once, over any arithmetic N and any reading num of a coordinate as a number of it: over f64 the coordinate itself,
 -- over exact numbers its value. Assumes nothing.
-use Rattle.std.specs.Prelude.{Bool, cond, List, [], ◌∷◌, ◌++◌, Float}
+use Rattle.std.specs.Prelude.{Bool, cond, List, [], ◌∷◌, ◌++◌, Float, Ok, Err}
 use Rattle.float.specs.Floats.{f64}
 use Rattle.frame.specs.declared.Point.{Point}
 use Rattle.frame.specs.declared.Quad.{Quad}
-use Rattle.frame.specs.declared.Verdict.TheVariants.{Accepted, Refused}
+use Rattle.frame.specs.declared.refusals.Refusal.{Refusal}
+use Rattle.frame.specs.declared.refusals.Refusal.TheVariants.{NoHomography}
 use Rattle.homography.specs.Arithmetic.{Arithmetic, rounded}
 use Rattle.homography.specs.Elimination.{solvable, solution}
 use Rattle.homography.specs.declared.Homography.{Homography}
@@ -67,8 +68,12 @@ has_homography src dst = solvable rounded (equations src dst)
 unfoldable pub homography : Quad → Quad → Homography
 homography src dst = record { m = homography_over rounded itself src dst }
 
+-- the answer with a matrix, and the one without: the identity stands for it
+abbrev pub found : Homography → Solved
+found h = record { verdict = Ok tt; h = h }
+
+abbrev pub refused : Refusal → Solved
+refused r = record { verdict = Err r; h = identity }
+
 unfoldable pub from_points : Quad → Quad → Solved
-from_points src dst =
-    cond (has_homography src dst)
-    (record { verdict = Accepted; h = homography src dst })
-    (record { verdict = Refused 10; h = identity })
+from_points src dst = cond (has_homography src dst) (found (homography src dst)) (refused NoHomography)

@@ -7,9 +7,9 @@ use Rattle.float.specs.Floats.{◌⊕◌, ◌⊖◌, ◌⊗◌, ◌⊘◌, f64, 
 use Rattle.float.specs.Root.{sqrt_of}
 use Rattle.frame.specs.declared.Point.{Point}
 use Rattle.frame.specs.declared.Quad.{Quad}
-use Rattle.frame.specs.declared.Verdict.TheVariants.{Accepted, Refused}
+use Rattle.frame.specs.declared.refusals.Refusal.TheVariants.{Singular}
 use Rattle.homography.specs.Arithmetic.{Arithmetic, rounded}
-use Rattle.homography.specs.Equations.{identity}
+use Rattle.homography.specs.Equations.{found, refused}
 use Rattle.homography.specs.declared.Homography.{Homography}
 use Rattle.homography.specs.declared.Solved.{Solved}
 
@@ -69,9 +69,7 @@ quotients c d = table (λ i. get_or c i nan ⊘ d) 9
 
 unfoldable pub inverse : Homography → Solved
 inverse h =
-    cond (singular h.m)
-    (record { verdict = Refused 11; h = identity })
-    (record { verdict = Accepted; h = record { m = quotients (adjugate h.m) (determinant h.m) } })
+    cond (singular h.m) (refused Singular) (found (record { m = quotients (adjugate h.m) (determinant h.m) }))
 
 -- [13.2] `rms_error`
 abbrev pub apart : Point → Point → Float

@@ -30,12 +30,13 @@
 
 mod solve;
 
-ghost use Rattle.std.specs.Prelude.{◌≡◌, ◌<◌};
+ghost use Rattle.std.specs.Prelude.{◌≡◌, ◌<◌, [], ◌∷◌, ◌++◌};
+ghost use Rattle.float.specs.Floats.{f64};
 ghost use Rattle.homography.specs.Equations as dlt;
 ghost use Rattle.homography.specs.Homography as mat;
 ghost use Rattle.homography.specs.Inner as inner;
 
-use frame::{Point, Quad, Verdict};
+use frame::{Point, Quad, Refusal};
 
 // Nine entries by rows: entry j of row i stands at i * 3 + j.
 pub type Mat3 = [f64; 9];
@@ -63,15 +64,32 @@ pub fn mat3_mul(a: &Mat3, b: &Mat3) -> Mat3
 // A plane-to-plane projective map.
 #[derive(Clone, Copy)]
 pub struct Homography {
-    pub m: [f64; 9],
+    pub m: Mat3,
 }
 
 // What from_points and inverse give: the matrix beside the enum, and the identity where it is
 // refused.
 #[derive(Clone, Copy)]
 pub struct Solved {
-    pub verdict: Verdict,
+    pub verdict: Result<(), Refusal>,
     pub h: Homography,
+}
+
+impl Solved {
+    fn found(h: Homography) -> Self
+        ensures { result ≡ dlt.found h }
+    {
+        Self { verdict: Ok(()), h }
+    }
+
+    fn refused(refusal: Refusal) -> Self
+        ensures { result ≡ dlt.refused refusal }
+    {
+        Self {
+            verdict: Err(refusal),
+            h: Homography::identity(),
+        }
+    }
 }
 
 // Row r of the equations.
@@ -79,10 +97,7 @@ fn set_row(a: &mut [f64; 72], r: usize, row: [f64; 9])
     requires { r < 8 }
     ensures { a.new ≡ inner.row_set r row a.old }
 {
-    for j in 0..9 {
-        let i = r * 9 + j;
-        a[i] = row[j];
-    }
+    a[r * 9..r * 9 + 9].copy_from_slice(&row);
 }
 
 // Both rows of the point i, which goes from p to q.
@@ -90,10 +105,8 @@ fn set_point(a: &mut [f64; 72], i: usize, p: Point, q: Point)
     requires { i < 4 }
     ensures { a.new ≡ inner.point_set i p q a.old }
 {
-    let x = p.x;
-    let y = p.y;
-    let u = q.x;
-    let v = q.y;
+    let Point { x, y } = p;
+    let Point { x: u, y: v } = q;
     set_row(a, 2 * i, [x, y, 1.0, 0.0, 0.0, 0.0, -u * x, -u * y, u]);
     set_row(a, 2 * i + 1, [0.0, 0.0, 0.0, x, y, 1.0, -v * x, -v * y, v]);
 }
@@ -112,12 +125,10 @@ fn equations(src: Quad, dst: Quad) -> [f64; 72]
 
 // The eight unknowns with 1 behind them.
 fn with_one(t: [f64; 8]) -> Mat3
-    ensures { result ≡ inner.with_one t }
+    ensures { result ≡ t ++ (f64 1 ∷ []) }
 {
     let mut m = [1.0; 9];
-    for i in 0..8 {
-        m[i] = t[i];
-    }
+    m[..8].copy_from_slice(&t);
     m
 }
 
@@ -133,14 +144,13 @@ impl Homography {
     pub fn identity() -> Self
         ensures { result ≡ dlt.identity }
     {
-        let m = [1.0, 0.0, 0.0, 0.0, 1.0, 0.0, 0.0, 0.0, 1.0];
-        Self { m: m }
+        Self::from_mat([1.0, 0.0, 0.0, 0.0, 1.0, 0.0, 0.0, 0.0, 1.0])
     }
 
     pub fn from_mat(m: Mat3) -> Self
         ensures { result.m ≡ m }
     {
-        Self { m: m }
+        Self { m }
     }
 
     // The homography that takes each point of src to that of dst; refusal 10 where the equations
@@ -148,21 +158,9 @@ impl Homography {
     pub fn from_points(src: Quad, dst: Quad) -> Solved
         ensures { result ≡ dlt.from_points src dst }
     {
-        let a = equations(src, dst);
-        let s = solve::solve8(a);
-        if s.ok {
-            let t = s.h;
-            let m = with_one(t);
-            let h = Self::from_mat(m);
-            return Solved {
-                verdict: Verdict::Accepted,
-                h: h,
-            };
-        }
-        let h = Self::identity();
-        Solved {
-            verdict: Verdict::Refused(10),
-            h: h,
+        match solve::solve8(equations(src, dst)) {
+            Some(unknowns) => Solved::found(Self::from_mat(with_one(unknowns))),
+            None => Solved::refused(Refusal::NoHomography),
         }
     }
 
@@ -193,31 +191,13 @@ impl Homography {
     pub fn inverse(self) -> Solved
         ensures { result ≡ mat.inverse self }
     {
-        let m = self.m;
-        let c = cofactors(m);
-        let det = product_at(&m, &c, 0, 0);
+        let c = cofactors(self.m);
+        let det = product_at(&self.m, &c, 0, 0);
         if float::abs(det) < 1e-12 {
-            let h = Self::identity();
-            return Solved {
-                verdict: Verdict::Refused(11),
-                h: h,
-            };
+            return Solved::refused(Refusal::Singular);
         }
-        let out = quotients(c, det);
-        let h = Self::from_mat(out);
-        Solved {
-            verdict: Verdict::Accepted,
-            h: h,
-        }
+        Solved::found(Self::from_mat(quotients(c, det)))
     }
-}
-
-// One cofactor by the places of its four entries.
-fn minor(m: Mat3, i: usize, j: usize, k: usize, l: usize) -> f64
-    requires { (i < 9) × (j < 9) × (k < 9) × (l < 9) }
-    ensures { result ≡ inner.minor_at m i j k l }
-{
-    m[i] * m[j] - m[k] * m[l]
 }
 
 // The cofactors, transposed.
@@ -225,15 +205,15 @@ fn cofactors(m: Mat3) -> Mat3
     ensures { result ≡ mat.adjugate m }
 {
     [
-        minor(m, 4, 8, 5, 7),
-        minor(m, 2, 7, 1, 8),
-        minor(m, 1, 5, 2, 4),
-        minor(m, 5, 6, 3, 8),
-        minor(m, 0, 8, 2, 6),
-        minor(m, 2, 3, 0, 5),
-        minor(m, 3, 7, 4, 6),
-        minor(m, 1, 6, 0, 7),
-        minor(m, 0, 4, 1, 3),
+        m[4] * m[8] - m[5] * m[7],
+        m[2] * m[7] - m[1] * m[8],
+        m[1] * m[5] - m[2] * m[4],
+        m[5] * m[6] - m[3] * m[8],
+        m[0] * m[8] - m[2] * m[6],
+        m[2] * m[3] - m[0] * m[5],
+        m[3] * m[7] - m[4] * m[6],
+        m[1] * m[6] - m[0] * m[7],
+        m[0] * m[4] - m[1] * m[3],
     ]
 }
 
@@ -241,9 +221,9 @@ fn cofactors(m: Mat3) -> Mat3
 fn quotients(c: Mat3, d: f64) -> Mat3
     ensures { result ≡ mat.quotients c d }
 {
-    let mut out = [0.0; 9];
-    for i in 0..9 {
-        out[i] = c[i] / d;
+    let mut out = c;
+    for entry in &mut out {
+        *entry /= d;
     }
     out
 }

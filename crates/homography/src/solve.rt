@@ -2,7 +2,7 @@
 // the right-hand side. Entry j of row r stands at r * 9 + j.
 ghost use Rattle.std.specs.Prelude.{◌≡◌, ◌<◌};
 ghost use Rattle.homography.specs.Arithmetic.{rounded};
-ghost use Rattle.homography.specs.Elimination.{pivot_of, swapped, divided, reduced, cleared, solvable, last_column};
+ghost use Rattle.homography.specs.Elimination.{pivot_of, swapped, divided, reduced, cleared, last_column};
 ghost use Rattle.homography.specs.Inner.{unknowns};
 
 // The row, from col down, whose entry in the column has the largest absolute value; the earlier of
@@ -14,9 +14,7 @@ fn pivot(a: &[f64; 72], col: usize) -> usize
 {
     let mut piv = col;
     for r in col + 1..8 {
-        let i = r * 9 + col;
-        let j = piv * 9 + col;
-        if float::abs(a[i]) > float::abs(a[j]) {
+        if float::abs(a[r * 9 + col]) > float::abs(a[piv * 9 + col]) {
             piv = r;
         }
     }
@@ -29,11 +27,7 @@ fn swap_rows(a: &mut [f64; 72], p: usize, q: usize)
     ensures { a.new ≡ swapped rounded a.old p q }
 {
     for j in 0..9 {
-        let i = p * 9 + j;
-        let k = q * 9 + j;
-        let t = a[i];
-        a[i] = a[k];
-        a[k] = t;
+        a.swap(p * 9 + j, q * 9 + j);
     }
 }
 
@@ -44,8 +38,7 @@ fn divide_row(a: &mut [f64; 72], r: usize, col: usize, d: f64)
     ensures { a.new ≡ divided rounded a.old r col d }
 {
     for j in col..9 {
-        let i = r * 9 + j;
-        a[i] = a[i] / d;
+        a[r * 9 + j] /= d;
     }
 }
 
@@ -58,15 +51,12 @@ fn reduce_row(a: &mut [f64; 72], r: usize, col: usize)
     if r == col {
         return;
     }
-    let at = r * 9 + col;
-    let f = a[at];
+    let f = a[r * 9 + col];
     if f == 0.0 {
         return;
     }
     for j in col..9 {
-        let i = r * 9 + j;
-        let k = col * 9 + j;
-        a[i] = a[i] - f * a[k];
+        a[r * 9 + j] -= f * a[col * 9 + j];
     }
 }
 
@@ -77,18 +67,11 @@ fn clear_column(a: &mut [f64; 72], col: usize, piv: usize)
     ensures { a.new ≡ cleared rounded a.old col }
 {
     swap_rows(a, col, piv);
-    let at = col * 9 + col;
-    let d = a[at];
+    let d = a[col * 9 + col];
     divide_row(a, col, col, d);
     for r in 0..8 {
         reduce_row(a, r, col);
     }
-}
-
-#[derive(Clone, Copy)]
-pub struct Solution {
-    pub ok: bool,
-    pub h: [f64; 8],
 }
 
 // The last column.
@@ -97,29 +80,23 @@ fn last_column(a: &[f64; 72]) -> [f64; 8]
 {
     let mut h = [0.0; 8];
     for r in 0..8 {
-        let i = r * 9 + 8;
-        h[r] = a[i];
+        h[r] = a[r * 9 + 8];
     }
     h
 }
 
-// The eight unknowns. There are none, and zeros stand for them, where the pivot of some column has
-// an absolute value below 1e-12; a NaN is not below it.
-pub fn solve8(rows: [f64; 72]) -> Solution
-    ensures { (result.ok ≡ solvable rounded rows) × (result.h ≡ unknowns rows) }
+// The eight unknowns. There are none where the pivot of some column has an absolute value below
+// 1e-12; a NaN is not below it.
+pub fn solve8(rows: [f64; 72]) -> Option<[f64; 8]>
+    ensures { result ≡ unknowns rows }
 {
     let mut a = rows;
     for col in 0..8 {
         let piv = pivot(&a, col);
-        let at = piv * 9 + col;
-        if float::abs(a[at]) < 1e-12 {
-            return Solution {
-                ok: false,
-                h: [0.0; 8],
-            };
+        if float::abs(a[piv * 9 + col]) < 1e-12 {
+            return None;
         }
         clear_column(&mut a, col, piv);
     }
-    let h = last_column(&a);
-    Solution { ok: true, h: h }
+    Some(last_column(&a))
 }

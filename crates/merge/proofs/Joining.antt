@@ -2,14 +2,13 @@
 use Prim.Native.Nat.{ℕ, ◌+◌, ◌^◌, ◌≤◌, ◌<◌}
 use mathlib.Core.Path.{◌≡◌, refl, sym, ap, subst, ◌∙◌}
 use mathlib.Core.Bool.{Bool, true, false, not, true≢false}
-use mathlib.Core.Logic.{◌⊎◌, inl, inr, ⊎_elim}
+use mathlib.Core.Logic.{inl, inr, ⊎_elim}
 use mathlib.Core.List.{List, []}
 use native.Mathlib.Omega.{arith}
-use borrow.Author.Tests.{eqb-true, eq-eqb, not-false, not-true}
+use borrow.Author.Tests.{not-false, not-true}
 use lib.ListN.{length, get_or}
-use lib.Seq.{ext_get_or}
 use Rattle.base.specs.Loops.{every}
-use Rattle.base.proofs.Every.{every_one, one_every, every_fails}
+use Rattle.base.proofs.Every.{every_one, every_fails}
 use Rattle.base.proofs.Members.{In, in_place, place_in}
 use Rattle.base.proofs.Tests.{or_first, or_left, or_right, either}
 use Rattle.book.specs.Layout.{book_length, count_in, key_in, grade_in, zero_in}

@@ -1,19 +1,21 @@
--- Keys in their order: what the tests say, and keys as numbers. Assumes nothing.
-use Prim.Native.Nat.{ℕ, ◌^◌, ◌≤◌, ◌<◌}
-use mathlib.Core.Path.{◌≡◌, refl, sym, ap, ◌∙◌}
+-- Keys in their order: what the tests and the comparison say. Assumes nothing.
+use Prim.Native.Nat.{ℕ, ◌<◌}
+use mathlib.Core.Path.{◌≡◌, refl, sym, ap, subst, ◌∙◌}
 use mathlib.Core.Bool.{Bool, true, false, true≢false}
-use mathlib.Core.Logic.{◌⊎◌, inl, inr, ⊎_elim}
+use mathlib.Core.Logic.{inl, inr, ⊎_elim}
 use mathlib.Core.List.{List}
 use native.Mathlib.Omega.{arith}
 use borrow.Author.Tests.{eqb-true, eq-eqb}
 use lib.Dec.{eqb}
-use Rattle.base.proofs.Arith.{last_or, neither_below}
+use Rattle.std.proofs.Common.{Ordering, Less, Equal, Greater}
+use Rattle.std.proofs.lemmas.Cmp.{ranked}
+use Rattle.std.specs.Ordering.{MatchOrdering, nat_cmp, ordering_then}
+use Rattle.base.proofs.Arith.{neither_below}
 use Rattle.base.proofs.Tests.{and_left, and_right, and_both, either}
-use Rattle.book.specs.Layout.{Key}
+use Rattle.book.specs.declared.keys.Key.{Key}
 use Rattle.book.specs.Meaning.{Before}
 use Rattle.book.proofs.Meaning.{before_true, true_before}
 use Rattle.merge.specs.Merged.{key_of, goes_before, same_key}
-use Rattle.merge.specs.Steps.{key_number}
 
 -- ---- two keys
 
@@ -38,18 +40,18 @@ neither_before x y h k =
     let p : x.panel ≡ y.panel = neither_below x.panel y.panel (λ l. h (inl l)) (λ l. k (inl l)) in
     key_is x y p (neither_below x.camera y.camera (λ l. h (inr (p, l))) (λ l. k (inr (sym p, l))))
 
--- ---- as one number
-
-pub less_before : (x y : Key) → x.camera < 2 ^ 32 → y.camera < 2 ^ 32 → key_number x < key_number y → Before x y
-less_before x y h k l = ⊎_elim (λ e. inr (e, omega arith)) inl (panels x.panel y.panel (omega arith))
+-- what the derived `cmp` answers
+pub compared : (x y : Key) (o : Ordering) → o ≡ ordering_then (nat_cmp x.panel y.panel) (nat_cmp x.camera y.camera) → MatchOrdering o (Before x y) (x ≡ y) (Before y x)
+compared x y o e = subst (λ o. MatchOrdering o (Before x y) (x ≡ y) (Before y x)) (sym e)
+    (go _ _ (ranked x.panel y.panel _ refl) (ranked x.camera y.camera _ refl))
   where
-    panels : (p q : ℕ) → p ≤ q → (p ≡ q) ⊎ (p < q)
-    panels p q h = last_or p q (omega arith)
-
-pub equal_keys : (x y : Key) → x.camera < 2 ^ 32 → y.camera < 2 ^ 32 → key_number x ≡ key_number y → x ≡ y
-equal_keys x y h k e =
-    let p : x.panel ≡ y.panel = omega arith in
-    key_is x y p (omega arith)
+    go : (s t : Ordering) → MatchOrdering s (x.panel < y.panel) (x.panel ≡ y.panel) (y.panel < x.panel)
+        → MatchOrdering t (x.camera < y.camera) (x.camera ≡ y.camera) (y.camera < x.camera) → MatchOrdering (ordering_then s t) (Before x y) (x ≡ y) (Before y x)
+    go Less t h k = inl h
+    go Greater t h k = inl h
+    go Equal Less h k = inr (h, k)
+    go Equal Equal h k = key_is x y h k
+    go Equal Greater h k = inr (sym h, k)
 
 -- ---- two records
 

@@ -1,8 +1,8 @@
 -- The theorems of specs/Meaning. Assumes nothing.
-use Prim.Native.Nat.{ℕ, zero, suc, ◌+◌, ◌*◌, ◌^◌, ◌≤◌, ◌<◌}
+use Prim.Native.Nat.{ℕ, zero, suc, ◌*◌, ◌^◌, ◌≤◌, ◌<◌}
 use mathlib.Core.Path.{◌≡◌, refl, sym, ap, ap₂, subst, ◌∙◌}
 use mathlib.Core.Bool.{Bool, true, false, not, cond, ◌||◌, true≢false}
-use mathlib.Core.Logic.{◌⊎◌, inl, inr, ⊎_elim}
+use mathlib.Core.Logic.{inl, inr, ⊎_elim}
 use mathlib.Core.List.{List, [], ◌∷◌, ◌++◌, append-nil}
 use native.Mathlib.Omega.{arith}
 use borrow.Author.Tests.{ltb-true, ltb-false, not-false}
@@ -15,17 +15,18 @@ use Rattle.base.proofs.Arith.{last_or, le_or_lt}
 use Rattle.base.proofs.Bytes.{bytes_take}
 use Rattle.base.proofs.Members.{In}
 use Rattle.base.proofs.Tests.{or_cases, or_left, or_right, either, same_test}
-use Rattle.frame.specs.Refusals.{check, lowest_of}
-use Rattle.frame.specs.Answers.{number_for, number_as}
-use Rattle.frame.specs.declared.Number.{Number}
-use Rattle.frame.specs.declared.Number.TheVariants as N
-use Rattle.frame.proofs.Given.{number_accepted}
+use Rattle.frame.specs.Refusals.{check, number_of, lowest_of, answer_for}
+use Rattle.frame.specs.declared.refusals.Refusal.{Refusal}
+use Rattle.frame.specs.declared.refusals.Refusal.TheVariants.{AreaShort, BooksDiffer}
+use Rattle.frame.proofs.Given.{answer_number}
+use Rattle.std.specs.Prelude.{Result, Ok}
 use Rattle.book.specs.Layout.{book_length, header, u32_at, count_in, key_in}
 use Rattle.book.specs.Promises.{book_tests, read_tests, Reading}
 use Rattle.book.specs.Meaning.{Headed, Rise, ReadRefusal}
 use Rattle.book.specs.Meaning.ReadRefusal.{malformed, unsorted, short as too_short, none as read}
-use Rattle.book.proofs.Meaning.{rise_is, well_formed_is, reader_given, accepted_is}
+use Rattle.book.proofs.Meaning.{rise_is, well_formed_is, reader_given}
 use Rattle.book.proofs.Refusing.{bad, falls}
+use Rattle.book.proofs.Tested.{none_holds, value_given, accepted_by}
 use Rattle.book.proofs.ReadsBack.{count_in_lem, headed_in}
 use Rattle.book.proofs.WritesBack.{u32_below, writes_back}
 use Rattle.merge.specs.Merged.{record_in, records, key_of, Accepted, RecordOf, Joined, Differs, merged, book_of, joined_book, size, differs}
@@ -110,15 +111,15 @@ one_book a b c d bytes bytes' J K =
     ∙ book_again d bytes' K.accepted.formed.header
 
 -- a call whose joined book is the first
-same_book : (a b target target' : List ℕ) (n : Number) → AllBelow 256 a → Accepted a → Accepted b → merged (records a) (records b) ≡ records a
-    → (Differs a b → ⊥) → length a ≤ length target → Merging a b target target' n → (n ≡ N.Is (length a)) × (target' ≡ a ++ drop (length a) target)
+same_book : (a b target target' : List ℕ) (n : Result ℕ Refusal) → AllBelow 256 a → Accepted a → Accepted b → merged (records a) (records b) ≡ records a
+    → (Differs a b → ⊥) → length a ≤ length target → Merging a b target target' n → (n ≡ Ok (length a)) × (target' ≡ a ++ drop (length a) target)
 same_book a b target target' n bytes A B e d h W =
     let s : size a b ≡ count_in a = unfold size in (ap length e ∙ length_records a) in
     let l : book_length (size a b) ≡ length a = ap book_length s ∙ sym (whole a A) in
     let f : u32_at a 12 < 256 ^ 4 = u32_below a bytes 12 (omega (arith, A.formed.header.headed)) in
     let j : joined_book a b ≡ a = unfold joined_book in (ap book_of e ∙ book_again a bytes A.formed.header) in
     let z = accepted (omega arith) (omega (arith, A.formed.header.all)) in (
-      W.given ∙ sym (number_accepted _ _ z) ∙ ap N.Is l,
+      W.given ∙ accepted_by (merge_tests a b target) (book_length (size a b)) z ∙ ap Ok l,
       W.accepted z ∙ ap (λ t. t ++ drop (book_length (size a b)) target) j ∙ ap (λ k. a ++ drop k target) l,
     )
   where
@@ -212,12 +213,15 @@ module _ (a b : List ℕ) (A : Accepted a) (B : Accepted b) where
       (λ e. true_differs b a B A (turned_about a b (differs_true a b A B e)))
       (λ e. true_differs a b A B (turned_about b a (differs_true b a B A e)))
 
-  same_number : (target : List ℕ) → lowest_of (merge_tests a b target) ≡ lowest_of (merge_tests b a target)
-  same_number target = past a b target A B ∙ tests ∙ sym (past b a target B A)
+  same_answer : (v : ℕ) (target : List ℕ) → answer_for (merge_tests a b target) v ≡ answer_for (merge_tests b a target) v
+  same_answer v target = past v a b target A B ∙ tests ∙ sym (past v b a target B A)
     where
-      tests : lowest_of (join_tests a b target) ≡ lowest_of (join_tests b a target)
+      tests : answer_for (join_tests a b target) v ≡ answer_for (join_tests b a target) v
       tests = unfold join_tests in
-          ap₂ (λ s d. lowest_of (check 3 (ltb (length target) (book_length s)) ∷ check 18 (d || ltb 4294967295 (book_length s)) ∷ [])) sizes both_differ
+          ap₂ (λ s d. answer_for (check AreaShort (ltb (length target) (book_length s)) ∷ check BooksDiffer (d || ltb 4294967295 (book_length s)) ∷ []) v) sizes both_differ
+
+  same_number : (target : List ℕ) → lowest_of (merge_tests a b target) ≡ lowest_of (merge_tests b a target)
+  same_number target = sym (answer_number 0 (merge_tests a b target)) ∙ ap number_of (same_answer 0 target) ∙ answer_number 0 (merge_tests b a target)
 
   module _ (e : differs a b ≡ false) where
     same_list : merged (records a) (records b) ≡ merged (records b) (records a)
@@ -242,9 +246,8 @@ module _ (a b : List ℕ) (A : Accepted a) (B : Accepted b) where
     same_joined = ap book_of same_list
 
 pub exchanged : Exchanged
-unfolding number_for
 exchanged a b target x y n m A B W X = (
-  W.given ∙ ap₂ (λ k s. number_as k (book_length s)) (same_number a b A B target) (sizes a b A B) ∙ sym X.given,
+  W.given ∙ same_answer a b A B (book_length (size a b)) target ∙ ap (λ s. answer_for (merge_tests b a target) (book_length s)) (sizes a b A B) ∙ sym X.given,
   go (lowest_of (merge_tests a b target)) refl,
 )
   where
@@ -269,18 +272,19 @@ reads c heads numbers C h k = go (reader_given c heads numbers)
 
 pub round_trip : RoundTrip
 round_trip a b target target' n bytes W heads numbers heads' numbers' m h k R area area' w r X =
-    let x = accepted_is _ n (book_length (size a b)) W.given in
-    let G = accepting a b target x.0 in
+    let none = none_holds (merge_tests a b target) (book_length (size a b)) (sym W.given) in
+    let total : n ≡ book_length (size a b) = value_given (merge_tests a b target) (book_length (size a b)) (sym W.given) in
+    let G = accepting a b target none in
     let A = G.first_accepted in
     let B = G.second_accepted in
     let few : book_length (size a b) < 2 ^ 32 = omega (arith, G.few) in
     let c = take n target' in
     let cut : c ≡ joined_book a b =
-    ap (λ i. take i target') x.1 ∙ ap (take (book_length (size a b))) (W.accepted x.0) ∙ take_at (joined_book a b) _ (book_length (size a b)) (joined_long a b A B) in
+    ap (λ i. take i target') total ∙ ap (take (book_length (size a b))) (W.accepted none) ∙ take_at (joined_book a b) _ (book_length (size a b)) (joined_long a b A B) in
     let count : count_in c ≡ size a b = ap count_in cut ∙ joined_count a b A B few in
-    let long : length c ≡ n = ap length cut ∙ joined_long a b A B ∙ sym x.1 in
+    let long : length c ≡ n = ap length cut ∙ joined_long a b A B ∙ sym total in
     let C : Accepted c = subst Accepted (sym cut) (joined_accepted a b A B few) in
     let z = reads c heads numbers C (omega arith) (omega arith) in
-    let e : m ≡ N.Is (size a b) = R.given ∙ sym (number_accepted (read_tests c heads numbers) (count_in c) z) ∙ ap N.Is count in
+    let e : m ≡ Ok (size a b) = R.given ∙ accepted_by (read_tests c heads numbers) (count_in c) z ∙ ap Ok count in
     let q = writes_back c heads numbers heads' numbers' (size a b) area area' w (bytes_take n target' bytes) (subst (Reading c heads numbers heads' numbers') e R) X (omega arith) in
-    (e, q.0 ∙ ap N.Is long, q.1 ∙ ap (λ i. c ++ drop i area) long)
+    (e, q.0 ∙ ap Ok long, q.1 ∙ ap (λ i. c ++ drop i area) long)

@@ -1,5 +1,5 @@
 -- The walk through both books: what a step passes, and what is then known. Assumes nothing.
-use Prim.Native.Nat.{ℕ, suc, ◌+◌, ◌-◌, ◌^◌, ◌<◌}
+use Prim.Native.Nat.{ℕ, suc, ◌+◌, ◌-◌, ◌<◌}
 use mathlib.Core.Path.{◌≡◌, refl, sym, ap, ap₂, subst, ◌∙◌}
 use mathlib.Core.Bool.{true, false, cond}
 use mathlib.Core.Logic.{◌⊎◌, ⊎_elim}
@@ -14,11 +14,11 @@ use Rattle.base.proofs.Table.{length_table, table_at}
 use Rattle.book.specs.Layout.{count_in, key_in}
 use Rattle.book.specs.Meaning.{Before}
 use Rattle.merge.specs.Merged.{record_in, records, key_of, goes_before, merged}
-use Rattle.merge.specs.Steps.{Whole, Within, Held, key_number, rest_of, side_of, passed, next_record}
+use Rattle.merge.specs.Steps.{Whole, Within, Held, rest_of, side_of, passed, next_record}
 use Rattle.merge.specs.declared.walk.Cursors.{Cursors}
 use Rattle.merge.specs.declared.walk.Side.{Side}
 use Rattle.merge.specs.declared.walk.Side.TheVariants.{First, Second, Both}
-use Rattle.merge.proofs.Keys.{before_once, before_other, less_before, equal_keys, goes_before_lem, before_goes, not_before, Order, order}
+use Rattle.merge.proofs.Keys.{before_once, before_other, goes_before_lem, before_goes, not_before, Order, order}
 use Rattle.merge.proofs.Keys.Order.{less, more, same}
 use Rattle.merge.proofs.Merging.{merged_none, merged_nil, merged_first, merged_second, merged_both}
 use Rattle.merge.proofs.Books.{length_records, key_in_lem}
@@ -81,32 +81,25 @@ module _ (a b : List ℕ) (i j : ℕ) where
       next_both : goes_before (record_in a i) (record_in b j) ≡ false → goes_before (record_in b j) (record_in a i) ≡ false → Both ≡ side_of (rest_of a i) (rest_of b j)
       next_both e d = side_both _ _ _ _ e d ∙ there
 
-      -- by the keys as numbers
-      module _ (w : Whole a b) (x y : ℕ) (ex : (x ≡ key_number (key_in a i)) × ((key_in a i).camera < 2 ^ 32)) (ey : (y ≡ key_number (key_in b j)) × ((key_in b j).camera < 2 ^ 32)) where
+      -- by the keys that stand there
+      module _ (w : Whole a b) where
         key_first : key_in a i ≡ key_of (record_in a i)
         key_first = key_in_lem a i (omega (arith, w.first_whole))
 
         key_second : key_in b j ≡ key_of (record_in b j)
         key_second = key_in_lem b j (omega (arith, w.second_whole))
 
-        before_first : x < y → Before (key_of (record_in a i)) (key_of (record_in b j))
-        before_first l = subst (λ z. Before z (key_of (record_in b j))) key_first (subst (Before (key_in a i)) key_second
-            (less_before (key_in a i) (key_in b j) ex.1 ey.1 (subst (λ z. z < key_number (key_in b j)) ex.0 (subst (λ z. x < z) ey.0 l))))
+        pub next_less : Before (key_in a i) (key_in b j) → First ≡ side_of (rest_of a i) (rest_of b j)
+        next_less l = next_first (before_goes _ _ (subst (λ z. Before z (key_of (record_in b j))) key_first (subst (Before (key_in a i)) key_second l)))
 
-        before_second : y < x → Before (key_of (record_in b j)) (key_of (record_in a i))
-        before_second l = subst (λ z. Before z (key_of (record_in a i))) key_second (subst (Before (key_in b j)) key_first
-            (less_before (key_in b j) (key_in a i) ey.1 ex.1 (subst (λ z. z < key_number (key_in a i)) ey.0 (subst (λ z. y < z) ex.0 l))))
+        pub next_more : Before (key_in b j) (key_in a i) → Second ≡ side_of (rest_of a i) (rest_of b j)
+        next_more l =
+            let k : Before (key_of (record_in b j)) (key_of (record_in a i)) = subst (λ z. Before z (key_of (record_in a i))) key_second (subst (Before (key_in b j)) key_first l) in
+            next_second (not_before _ _ (λ p. before_once _ _ p k)) (before_goes _ _ k)
 
-        pub next_less : x < y → First ≡ side_of (rest_of a i) (rest_of b j)
-        next_less l = next_first (before_goes _ _ (before_first l))
-
-        pub next_more : y < x → Second ≡ side_of (rest_of a i) (rest_of b j)
-        next_more l = next_second (not_before _ _ (λ p. before_once _ _ p (before_second l))) (before_goes _ _ (before_second l))
-
-        pub next_same : x ≡ y → Both ≡ side_of (rest_of a i) (rest_of b j)
+        pub next_same : key_in a i ≡ key_in b j → Both ≡ side_of (rest_of a i) (rest_of b j)
         next_same e =
-            let same : key_of (record_in a i) ≡ key_of (record_in b j) =
-            sym key_first ∙ equal_keys (key_in a i) (key_in b j) ex.1 ey.1 (sym ex.0 ∙ e ∙ ey.0) ∙ key_second in
+            let same : key_of (record_in a i) ≡ key_of (record_in b j) = sym key_first ∙ e ∙ key_second in
             next_both (not_before _ _ (λ p. before_other _ _ p same)) (not_before _ _ (λ p. before_other _ _ p (sym same)))
 
 -- where the next key stands: what is there, that it goes before the other book's next, and what is merged behind it

@@ -1,10 +1,9 @@
 -- What the definitions come to: theorems that a reader can cite (requirements, 28). proofs/Meaning shows them. Assumes
 -- nothing.
-use Rattle.std.specs.Prelude.{ℕ, ◌+◌, ◌*◌, ◌≤◌, ◌<◌, ◌≡◌, Bool, true, false, cond, ◌||◌, ◌⊎◌, ◌↔◌, List, [], ◌∷◌, ◌++◌, length, take, drop}
+use Rattle.std.specs.Prelude.{ℕ, ◌+◌, ◌*◌, ◌≤◌, ◌<◌, ◌≡◌, Bool, true, false, cond, ◌||◌, ◌⊎◌, ◌↔◌, List, [], ◌∷◌, ◌++◌, length, take, drop, Result, Ok}
 use Rattle.base.specs.Bytes.{AllBelow}
 use Rattle.frame.specs.Refusals.{lowest_of}
-use Rattle.frame.specs.declared.Number.{Number}
-use Rattle.frame.specs.declared.Number.TheVariants as N
+use Rattle.frame.specs.declared.refusals.Refusal.{Refusal}
 use Rattle.book.specs.Layout.{book_length, count_in, key_in, header}
 use Rattle.book.specs.Promises.{Reading, Writing}
 use Rattle.book.specs.Meaning.{WellFormed, Rise}
@@ -61,23 +60,23 @@ OneBook = (a b c d : List ℕ) → AllBelow 256 c → AllBelow 256 d → Joined 
 -- [28.2] an accepted book joined with itself is itself
 abbrev pub WithItself : Type 0
 WithItself =
-    (a target target' : List ℕ) (n : Number)
+    (a target target' : List ℕ) (n : Result ℕ Refusal)
     → AllBelow 256 a → Accepted a → length a ≤ length target
     → Merging a a target target' n
-    → (n ≡ N.Is (length a)) × (target' ≡ a ++ drop (length a) target)
+    → (n ≡ Ok (length a)) × (target' ≡ a ++ drop (length a) target)
 
 -- [28.2] .. and with the book of no records: 16 bytes
 abbrev pub WithNone : Type 0
 WithNone =
-    (a target target' : List ℕ) (n : Number)
+    (a target target' : List ℕ) (n : Result ℕ Refusal)
     → AllBelow 256 a → Accepted a → length a ≤ length target
     → Merging a (header 0) target target' n
-    → (n ≡ N.Is (length a)) × (target' ≡ a ++ drop (length a) target)
+    → (n ≡ Ok (length a)) × (target' ≡ a ++ drop (length a) target)
 
 -- [28.1] accepted books may be exchanged: the same number and the same bytes, refused or not
 abbrev pub Exchanged : Type 0
 Exchanged =
-    (a b target x y : List ℕ) (n m : Number)
+    (a b target x y : List ℕ) (n m : Result ℕ Refusal)
     → Accepted a → Accepted b
     → Merging a b target x n → Merging b a target y m
     → (n ≡ m) × (x ≡ y)
@@ -85,10 +84,10 @@ Exchanged =
 -- [18.6] the joined book is read, and what was read is written to it again
 abbrev pub RoundTrip : Type 0
 RoundTrip =
-    (a b target target' : List ℕ) (n : ℕ) → AllBelow 256 target' → Merging a b target target' (N.Is n)
-    → (heads numbers heads' numbers' : List ℕ) (m : Number)
+    (a b target target' : List ℕ) (n : ℕ) → AllBelow 256 target' → Merging a b target target' (Ok n)
+    → (heads numbers heads' numbers' : List ℕ) (m : Result ℕ Refusal)
     → 3 * size a b ≤ length heads → 13 * size a b ≤ length numbers
     → Reading (take n target') heads numbers heads' numbers' m
-    → (area area' : List ℕ) (k : Number) → n ≤ length area
+    → (area area' : List ℕ) (k : Result ℕ Refusal) → n ≤ length area
     → Writing heads' numbers' (size a b) area area' k
-    → (m ≡ N.Is (size a b)) × (k ≡ N.Is n) × (area' ≡ take n target' ++ drop n area)
+    → (m ≡ Ok (size a b)) × (k ≡ Ok n) × (area' ≡ take n target' ++ drop n area)

@@ -2,7 +2,8 @@
 use Rattle.std.specs.Prelude.{ℕ, ◌<◌, ◌≡◌, Bool, not, cond, ◌&&◌, ◌||◌, ◌⊎◌, eqb, length, get_or, take, drop}
 use mathlib.Core.List.{List, [], ◌∷◌, ◌++◌, flatten}
 use Rattle.base.specs.Loops.{every, table}
-use Rattle.book.specs.Layout.{book_length, header, u32_at, count_in, Key, key_in}
+use Rattle.book.specs.Layout.{book_length, header, u32_at, count_in, key_in}
+use Rattle.book.specs.declared.keys.Key.{Key}
 use Rattle.book.specs.Promises.{key_before}
 use Rattle.book.specs.Meaning.{Rise, WellFormed}
 

@@ -1,8 +1,8 @@
 -- What `merge_books` does (requirements, 28). Assumes nothing.
-use Rattle.std.specs.Prelude.{ℕ, ◌≤◌, ◌≡◌, ◌||◌, List, [], ◌∷◌, ◌++◌, ltb, length, take, drop}
-use Rattle.frame.specs.Refusals.{Check, check, lowest_of}
-use Rattle.frame.specs.Answers.{number_for}
-use Rattle.frame.specs.declared.Number.{Number}
+use Rattle.std.specs.Prelude.{ℕ, ◌≤◌, ◌≡◌, ◌||◌, List, [], ◌∷◌, ◌++◌, ltb, length, take, drop, Result}
+use Rattle.frame.specs.Refusals.{Check, check, lowest_of, answer_for}
+use Rattle.frame.specs.declared.refusals.Refusal.{Refusal}
+use Rattle.frame.specs.declared.refusals.Refusal.TheVariants.{AreaShort, BooksDiffer}
 use Rattle.book.specs.Layout.{book_length}
 use Rattle.book.specs.Promises.{book_tests}
 use Rattle.merge.specs.Merged.{Joined, joined_book, size, differs}
@@ -14,8 +14,8 @@ both_tests a b = book_tests a ++ book_tests b
 -- [28.8] "the target area, if shorter than the joined book, gives 3"; [28.5, 28.6] 18
 unfoldable pub join_tests : List ℕ → List ℕ → List ℕ → List Check
 join_tests a b target =
-    check 3 (ltb (length target) (book_length (size a b)))
-    ∷ check 18 (differs a b || ltb 4294967295 (book_length (size a b)))
+    check AreaShort (ltb (length target) (book_length (size a b)))
+    ∷ check BooksDiffer (differs a b || ltb 4294967295 (book_length (size a b)))
     ∷ []
 
 -- [28.7] "after 14 and 15 .."; [28.8] "3 before 18". The numbers do not rise: the first test that holds is given, and
@@ -24,8 +24,8 @@ unfoldable pub merge_tests : List ℕ → List ℕ → List ℕ → List Check
 merge_tests a b target = both_tests a b ++ join_tests a b target
 
 -- the target becomes target', and the answer is n
-pub record Merging (a b target target' : List ℕ) (n : Number) : Type 0 where
-  pub given : n ≡ number_for (merge_tests a b target) (book_length (size a b))
+pub record Merging (a b target target' : List ℕ) (n : Result ℕ Refusal) : Type 0 where
+  pub given : n ≡ answer_for (merge_tests a b target) (book_length (size a b))
   -- [28.1] by equation; [17.6] a longer target keeps its rest
   pub accepted : lowest_of (merge_tests a b target) ≡ 0
       → target' ≡ joined_book a b ++ drop (book_length (size a b)) target

@@ -1,6 +1,6 @@
 -- The walk through both books: what the functions behind `merge_books` ask and leave. Assumes nothing.
-use Rattle.std.specs.Prelude.{ℕ, ◌+◌, ◌*◌, ◌^◌, ◌≤◌, ◌<◌, ◌≡◌, Bool, false, not, cond, ◌||◌, List, [], ◌∷◌, length, drop}
-use Rattle.book.specs.Layout.{book_length, count_in, Key}
+use Rattle.std.specs.Prelude.{ℕ, ◌+◌, ◌≤◌, ◌<◌, ◌≡◌, Bool, false, not, cond, ◌||◌, List, [], ◌∷◌, length, drop}
+use Rattle.book.specs.Layout.{book_length, count_in}
 use Rattle.merge.specs.Merged.{Accepted, record_in, records, goes_before, same_record}
 use Rattle.merge.specs.declared.plan.Plan.{Plan}
 use Rattle.merge.specs.declared.walk.Cursors.{Cursors}
@@ -31,10 +31,6 @@ Held a b at Second = at.second < count_in b
 Held a b at Both = (at.first < count_in a) × (at.second < count_in b)
 
 -- ---- a step
-
--- [18.5] a key as one number
-abbrev pub key_number : Key → ℕ
-key_number x = x.panel * 2 ^ 32 + x.camera
 
 -- the records that are not passed
 abbrev pub rest_of : List ℕ → ℕ → List (List ℕ)

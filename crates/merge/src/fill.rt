@@ -15,9 +15,8 @@ fn put_next(first: &[u8], second: &[u8], at: Cursors, side: Side, area: &mut [u8
     ensures { area.new ≡ next_record first.now second.now at side }
 {
     match side {
-        Side::First => copy_record(first, at.first, area),
+        Side::First | Side::Both => copy_record(first, at.first, area),
         Side::Second => copy_record(second, at.second, area),
-        Side::Both => copy_record(first, at.first, area),
     }
 }
 
@@ -28,17 +27,17 @@ pub fn put_joined(first: &[u8], second: &[u8], count: usize, target: &mut [u8])
     ensures { target.new ≡ joined_book first.now second.now ++ drop (book_length count) target.old }
 {
     put_header(&mut target[..16], count);
-    let mut at = Cursors {
-        first: 0,
-        second: 0,
-    };
-    let mut k: usize = 0;
-    while k < count {
+    let mut at = Cursors::default();
+    for k in 0..count {
         let side = next(first, second, at);
         let start = HEADER_LENGTH + RECORD_LENGTH * k;
-        let end = start + RECORD_LENGTH;
-        put_next(first, second, at, side, &mut target[start..end]);
+        put_next(
+            first,
+            second,
+            at,
+            side,
+            &mut target[start..start + RECORD_LENGTH],
+        );
         at = pass(at, side);
-        k += 1;
     }
 }

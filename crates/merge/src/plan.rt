@@ -8,8 +8,9 @@ use super::records::{count, same_record};
 use super::walk::{Cursors, Side, next, pass};
 use book::MOST_RECORDS;
 
-// How many different keys there are, and whether a key has other bytes in the other book.
-#[derive(Clone, Copy)]
+// How many different keys there are, and whether a key has other bytes in the other book: the
+// count is needed in both cases, since a short target is refused first.
+#[derive(Clone, Copy, Default)]
 pub struct Plan {
     pub count: usize,
     pub differs: bool,
@@ -28,8 +29,7 @@ fn clash(first: &[u8], second: &[u8], at: Cursors, side: Side) -> bool
     ensures { result ≡ clash first.now second.now at side }
 {
     match side {
-        Side::First => false,
-        Side::Second => false,
+        Side::First | Side::Second => false,
         Side::Both => !same_record(first, at.first, second, at.second),
     }
 }
@@ -39,10 +39,9 @@ fn count_key(first: &[u8], second: &[u8], at: Cursors, side: Side, p: Plan) -> P
     requires { Whole first.now second.now × Held first.now second.now at side × (p.count + 1 < 2 ^ 64) }
     ensures { result ≡ counted first.now second.now at side p }
 {
-    let clashes = clash(first, second, at, side);
     Plan {
         count: p.count + 1,
-        differs: p.differs | clashes,
+        differs: p.differs | clash(first, second, at, side),
     }
 }
 
@@ -54,14 +53,8 @@ pub fn plan_of(first: &[u8], second: &[u8]) -> Plan
 {
     let firsts = count(first);
     let seconds = count(second);
-    let mut at = Cursors {
-        first: 0,
-        second: 0,
-    };
-    let mut p = Plan {
-        count: 0,
-        differs: false,
-    };
+    let mut at = Cursors::default();
+    let mut p = Plan::default();
     while (at.first < firsts) | (at.second < seconds) {
         let side = next(first, second, at);
         p = count_key(first, second, at, side, p);

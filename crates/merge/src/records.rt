@@ -1,8 +1,7 @@
 // A book's records by their bytes.
 ghost use Rattle.std.specs.Prelude.{◌≡◌, ◌+◌, ◌^◌, ◌≤◌, ◌<◌, length};
-ghost use Rattle.book.specs.Layout.{book_length, count_in, key_in};
+ghost use Rattle.book.specs.Layout.{book_length, count_in};
 ghost use Rattle.merge.specs.Merged.{record_in, same_record};
-ghost use Rattle.merge.specs.Steps.{key_number};
 
 use book::internal::u32_at;
 use book::{HEADER_LENGTH, RECORD_LENGTH};
@@ -15,17 +14,6 @@ pub fn count(book: &[u8]) -> usize
     u32_at(book, 0) as usize
 }
 
-// The key of record j as one number, panel and then camera: it is less where the key goes before.
-pub fn key_at(book: &[u8], j: usize) -> u64
-    requires { book_length (j + 1) ≤ length book.now }
-    ensures { (result ≡ key_number (key_in book.now j)) × ((key_in book.now j).camera < 2 ^ 32) }
-{
-    let at = HEADER_LENGTH + RECORD_LENGTH * j;
-    let panel = u32_at(book, at) as u64;
-    let camera = u32_at(book, at + 4) as u64;
-    panel * 0x1_0000_0000 + camera
-}
-
 // Record i of the first book has the bytes of record j of the second. They are not compared as
 // floats: two NaNs, or two zeros, may have different bits.
 pub fn same_record(first: &[u8], i: usize, second: &[u8], j: usize) -> bool
@@ -34,14 +22,7 @@ pub fn same_record(first: &[u8], i: usize, second: &[u8], j: usize) -> bool
 {
     let at = HEADER_LENGTH + RECORD_LENGTH * i;
     let from = HEADER_LENGTH + RECORD_LENGTH * j;
-    let mut k: usize = 0;
-    while k < RECORD_LENGTH {
-        if first[at + k] != second[from + k] {
-            return false;
-        }
-        k += 1;
-    }
-    true
+    first[at..at + RECORD_LENGTH] == second[from..from + RECORD_LENGTH]
 }
 
 // Record j of a book, into an area of its length.
@@ -50,9 +31,5 @@ pub fn copy_record(book: &[u8], j: usize, area: &mut [u8])
     ensures { area.new ≡ record_in book.now j }
 {
     let at = HEADER_LENGTH + RECORD_LENGTH * j;
-    let mut k: usize = 0;
-    while k < area.len() {
-        area[k] = book[at + k];
-        k += 1;
-    }
+    area.copy_from_slice(&book[at..at + RECORD_LENGTH]);
 }

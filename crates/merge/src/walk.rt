@@ -2,10 +2,12 @@
 ghost use Rattle.std.specs.Prelude.{◌≡◌, ◌+◌, ◌^◌, ◌≤◌, ◌<◌};
 ghost use Rattle.merge.specs.Steps.{Whole, Within, rest_of, side_of, passed};
 
-use super::records::{count, key_at};
+use super::records::count;
+use book::internal::key_in;
+use std::cmp::Ordering;
 
 // How many records of each book are passed.
-#[derive(Clone, Copy)]
+#[derive(Clone, Copy, Default)]
 pub struct Cursors {
     pub first: usize,
     pub second: usize,
@@ -30,15 +32,11 @@ pub fn next(first: &[u8], second: &[u8], at: Cursors) -> Side
     if at.second == count(second) {
         return Side::First;
     }
-    let a = key_at(first, at.first);
-    let b = key_at(second, at.second);
-    if a < b {
-        return Side::First;
+    match key_in(first, at.first).cmp(&key_in(second, at.second)) {
+        Ordering::Less => Side::First,
+        Ordering::Equal => Side::Both,
+        Ordering::Greater => Side::Second,
     }
-    if b < a {
-        return Side::Second;
-    }
-    Side::Both
 }
 
 // Past the record that has this key, in each book that has one.
@@ -49,11 +47,11 @@ pub fn pass(at: Cursors, side: Side) -> Cursors
     match side {
         Side::First => Cursors {
             first: at.first + 1,
-            second: at.second,
+            ..at
         },
         Side::Second => Cursors {
-            first: at.first,
             second: at.second + 1,
+            ..at
         },
         Side::Both => Cursors {
             first: at.first + 1,

@@ -1,8 +1,8 @@
 -- What `candidate_page` does (requirements, 17). Assumes nothing.
 use Rattle.std.specs.Prelude.{ℕ, ◌*◌, ◌≤◌, ◌≡◌, Bool, not, ◌&&◌, ◌||◌, List, [], ◌∷◌, ◌++◌, ltb, Float, length, drop}
 use Rattle.base.specs.Loops.{every}
-use Rattle.frame.specs.Refusals.{Check, check, verdict_of, lowest_of}
-use Rattle.frame.specs.declared.Verdict.{Verdict}
+use Rattle.frame.specs.Refusals.{Check, check, lowest_of}
+use Rattle.frame.specs.declared.refusals.Refusal.TheVariants.{AreaShort, PageShort, Unprintable}
 use Rattle.candidates.specs.Ring.{candidate_length}
 use Rattle.page.specs.Amounts.{widest, printable}
 use Rattle.page.specs.Text.{line_length, row_at, page_text}
@@ -24,15 +24,15 @@ every_printable c n = every n (λ i. row_printable (row_at c i))
 -- above 9,999 candidates, or a number that cannot be printed
 unfoldable pub page_tests : List Float → ℕ → List ℕ → List Check
 page_tests c count page =
-    check 3 (ltb (length c) (candidate_length * count))
-    ∷ check 12 (ltb (length page) (line_length * count))
-    ∷ check 13 (ltb 9999 count || not (every_printable c count))
+    check AreaShort (ltb (length c) (candidate_length * count))
+    ∷ check PageShort (ltb (length page) (line_length * count))
+    ∷ check Unprintable (ltb 9999 count || not (every_printable c count))
     ∷ []
 
--- [17.1] `candidate_page`: the page area becomes page'
-pub record Paging (c : List Float) (count : ℕ) (page page' : List ℕ) (v : Verdict) : Type 0 where
+-- [17.1] `candidate_page`: the page area becomes page', with the refusal's number, or 0
+pub record Paging (c : List Float) (count : ℕ) (page page' : List ℕ) (number : ℕ) : Type 0 where
   -- [2.12] the lowest number that applies is given
-  pub given : v ≡ verdict_of (lowest_of (page_tests c count page))
+  pub given : number ≡ lowest_of (page_tests c count page)
   -- [17.6] a longer area keeps its rest
   pub accepted : lowest_of (page_tests c count page) ≡ 0 → page' ≡ page_text c count ++ drop (line_length * count) page
   -- [17.10] the page is untouched

@@ -9,7 +9,7 @@ pub fn units(x: f64, scale: u64) -> u64
     requires { Narrow x × (scale ≤ 1000) }
     ensures { result ≡ units_of scale x }
 {
-    let b = f64::to_bits(x);
+    let b = x.to_bits();
     let e = b % 0x8000_0000_0000_0000 / 0x10_0000_0000_0000;
     // Less than half a part, subnormal numbers too: 1000 times 53 digits are less than 2^63.
     if e < 1012 {

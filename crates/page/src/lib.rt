@@ -2,9 +2,10 @@
 // each candidate.
 #![tactic(auto)]
 
+ghost use Rattle.frame.specs.Refusals.{number_of};
 ghost use Rattle.page.specs.Promises.{Paging};
 
-use frame::Verdict;
+use frame::Refusal;
 use tests::refused;
 use text::put_lines;
 
@@ -29,13 +30,10 @@ pub struct Row {
 }
 
 // Lays the first `count` candidates of a flat list out on lines at the start of `page`.
-pub fn candidate_page(candidates: &[f64], count: usize, page: &mut [u8]) -> Verdict
-    ensures { Paging candidates.now count page.old page.new result }
+pub fn candidate_page(candidates: &[f64], count: usize, page: &mut [u8]) -> Result<(), Refusal>
+    ensures { Paging candidates.now count page.old page.new (number_of result) }
 {
-    let number = refused(candidates, count, page);
-    if number != 0 {
-        return Verdict::Refused(number);
-    }
+    refused(candidates, count, page)?;
     put_lines(candidates, count, page);
-    Verdict::Accepted
+    Ok(())
 }

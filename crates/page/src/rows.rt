@@ -37,13 +37,10 @@ pub fn every_printable(candidates: &[f64], count: usize) -> bool
     requires { 4 * count ≤ length candidates.now }
     ensures { result ≡ every_printable candidates.now count }
 {
-    let mut i: usize = 0;
-    while i < count {
-        let row = row_at(candidates, i);
-        if !row_printable(row) {
+    for i in 0..count {
+        if !row_printable(row_at(candidates, i)) {
             return false;
         }
-        i += 1;
     }
     true
 }

@@ -19,15 +19,12 @@ fn letter(q: u64, pad: bool) -> u8
 }
 
 // The last digits of q, one a column, from the right.
-fn put_columns(area: &mut [u8], q: u64, pad: bool)
+fn put_columns(area: &mut [u8], mut q: u64, pad: bool)
     ensures { area.new ≡ columns (letter_of pad) (length area.old) q }
 {
-    let mut k = area.len();
-    let mut rest = q;
-    while k > 0 {
-        k -= 1;
-        area[k] = letter(rest, pad);
-        rest /= 10;
+    for k in (0..area.len()).rev() {
+        area[k] = letter(q, pad);
+        q /= 10;
     }
 }
 
@@ -73,12 +70,9 @@ pub fn put_lines(candidates: &[f64], count: usize, page: &mut [u8])
     ensures { page.new ≡ page_text candidates.now count ++
         drop (line_length * count) page.old }
 {
-    let mut i: usize = 0;
-    while i < count {
+    for i in 0..count {
         let row = row_at(candidates, i);
         let at = LINE_LENGTH * i;
-        let end = at + LINE_LENGTH;
-        put_line(&mut page[at..end], (i + 1) as u64, row);
-        i += 1;
+        put_line(&mut page[at..at + LINE_LENGTH], (i + 1) as u64, row);
     }
 }

@@ -1,7 +1,7 @@
 -- The decimal digits of a number; what was written, one piece after another. Assumes nothing.
 use Prim.Native.Nat.{ℕ, zero, suc, ◌+◌, ◌-◌, ◌*◌, ◌/◌, ◌%◌, ◌^◌, ◌≤◌, ◌<◌}
 use native.Mathlib.Nat.{pow-suc, pow-zero}
-use Rattle.base.specs.Loops.{table}
+use Rattle.base.specs.Loops.{table, joined}
 use native.Mathlib.Omega.{arith}
 use mathlib.Core.Path.{◌≡◌, sym, ap, ap₂, subst, ◌∙◌}
 use mathlib.Core.List.{List, [], ◌∷◌, ◌++◌, append_assoc, append-nil}
@@ -10,10 +10,9 @@ use borrow.Author.Tests.{lt-ltb, le-ltb}
 use Rattle.base.proofs.Pick.{pick_yes, pick_no}
 use Rattle.base.proofs.Table.{table_more, length_table}
 use Rattle.blobs.specs.declared.Blob.{Blob}
-use native.Mathlib.Nat.{add-zero}
 use native.Mathlib.Numerals.{add-one}
-use lib.ListN.{length, get_or, set, take, drop, length-set, length-drop, drop_of_length-le}
-use lib.Seq.{take_all, take-suc, take-suc-set, drop-cons, drop-set-lt, get_or-set_same}
+use lib.ListN.{length, set, take, drop, length-set, length-drop, drop_of_length-le}
+use lib.Seq.{take_all, take-suc-set, drop-cons, drop-set-lt, get_or-set_same}
 use Rattle.patch_text.specs.Text.{blank, feed, spelled, decimal, field, record_line, record_lines, patch_text}
 use Rattle.patch_text.specs.Steps.{Written}
 
@@ -95,19 +94,13 @@ written_more o o₁ o₂ at r s k j t u a b =
       to = omega (arith, a.to, b.to);
     }
 
--- ---- a copy, one byte after another
-pub copy_none : (o b : List ℕ) (at : ℕ) → take (at + 0) o ≡ take at o ++ take 0 b
-copy_none o b at = ap (λ n. take n o) (add-zero at) ∙ sym (append-nil (take at o))
-
-pub copy_more : (o o₁ b : List ℕ) (at i : ℕ) → i < length b → at + i < length o₁ → take (at + i) o₁ ≡ take at o ++ take i b
-    → take (at + (i + 1)) (set o₁ (at + i) (get_or b i 0)) ≡ take at o ++ take (i + 1) b
-copy_more o o₁ b at i l r e =
-    let g : at + (i + 1) ≡ suc (at + i) = omega arith in
-    ap (λ n. take n (set o₁ (at + i) (get_or b i 0))) g
-    ∙ take-suc-set o₁ (at + i) (get_or b i 0) r
-    ∙ ap (λ x. x ++ (get_or b i 0 ∷ [])) e
-    ∙ append_assoc (take at o) (take i b) (get_or b i 0 ∷ [])
-    ∙ ap (λ x. take at o ++ x) (sym (take-suc b i 0 l) ∙ ap (λ n. take n b) (sym (add-one i)))
+-- ---- a field for each number
+pub written_field : (o o₁ o₂ : List ℕ) (at r s i : ℕ) (f : ℕ → List ℕ) → Written o o₁ at r (21 * i) (joined f i) → Written o₁ o₂ r s 21 (f i)
+    → Written o o₂ at s (21 * (i + 1)) (joined f (i + 1))
+unfolding joined
+written_field o o₁ o₂ at r s i f a b =
+    let w = written_more o o₁ o₂ at r s (21 * i) 21 (joined f i) (f i) a b in
+    record { text = w.text ∙ ap (λ n. take at o ++ joined f n) (sym (add-one i)); from = w.from; to = omega (arith, w.to) }
 
 -- ---- a number written: the digits at the end of d, from k on
 pub digits_part : (d : List ℕ) (k : ℕ) → length d ≡ 20 → take (20 - k) (drop k d) ≡ drop k d

@@ -2,10 +2,9 @@
 use Prim.Native.Nat.{ℕ, zero, suc, ◌+◌, ◌-◌, ◌*◌, ◌/◌, ◌%◌, ◌≤◌, ◌<◌}
 use native.Mathlib.Nat.{mod-lt, mod-eq_of_lt, div-add-mod', mul-le-mul, suc-mul, mul_comm, le_refl, add-zero, zero-mul}
 use native.Mathlib.Decide.{dec_lt, ℕ_discrete}
-use native.Mathlib.Numerals.{add-one}
 use native.Mathlib.Omega.{arith}
 use mathlib.Core.Path.{◌≡◌, refl, sym, ap, ap₂, ◌∙◌, subst}
-use mathlib.Core.Bool.{Bool, true, false, cond, not}
+use mathlib.Core.Bool.{true, false, cond, not, true≢false}
 use mathlib.Core.List.{List, [], ◌∷◌, ◌++◌}
 use mathlib.Core.Logic.{◌⊎◌, inl, inr, ⊎_elim}
 use lib.Arith.{digits_div, digits_mod}
@@ -13,39 +12,14 @@ use lib.Dec.{eqb}
 use lib.ListN.{length, get_or, length-append, get_or-append, get_or-eq_default}
 use lib.Seq.{ext_get_or, get_or_at}
 use borrow.Author.Tests.{eqb-true, eq-eqb, ne_eqb, le-leb}
-use Rattle.base.specs.Loops.{table, by_row}
+use Rattle.base.specs.Loops.{table, by_row, every}
 use Rattle.frame.specs.Refusals.{side, sides_wrong}
 use Rattle.base.proofs.Pick.{pick_yes, pick_no, cond_elim}
-use Rattle.base.proofs.Tests.{and_left, and_right, and_both, or_cases}
+use Rattle.base.proofs.Tests.{and_both, or_cases}
+use Rattle.base.proofs.Every.{every_one, one_every}
 use Rattle.base.proofs.Table.{table_at, length_table}
 use Rattle.patch_text.specs.Text.{hash, dot, feed, letter, byte_at, mask_text, Reads}
-use Rattle.patch_text.specs.Steps.{FirstFeed, closed_length, placed, placed_at, all, pixel_of, pixel_at, Measured}
-
--- ---- tests on the first n numbers
-pub all_at : (p : ℕ → Bool) (n k : ℕ) → all p n ≡ true → k < n → p k ≡ true
-unfolding all
-all_at p zero k e l = absurd (omega arith)
-all_at p (suc n) k e l = go (dec_lt k n) (λ y. all_at p n k (and_left (all p n) (p n) e) y)
-  where
-    go : Dec (k < n) → (k < n → p k ≡ true) → p k ≡ true
-    go (yes y) h = h y
-    go (no o) h = let g : n ≡ k = omega arith in subst (λ i. p i ≡ true) g (and_right (all p n) (p n) e)
-
-pub all_none : (p : ℕ → Bool) → all p 0 ≡ true
-unfolding all
-all_none p = refl
-
-pub all_more : (p : ℕ → Bool) (n : ℕ) → all p n ≡ true → p n ≡ true → all p (n + 1) ≡ true
-unfolding all
-all_more p n e d = ap (all p) (add-one n) ∙ and_both (all p n) (p n) e d
-
--- a test that fails stays
-pub all_fails : (p : ℕ → Bool) (n k : ℕ) → p k ≡ false → k < n → all p n ≡ false
-all_fails p n k e l = go (all p n) refl
-  where
-    go : (t : Bool) → all p n ≡ t → all p n ≡ false
-    go false d = d
-    go true d = absurd (let z : true ≡ false = sym (all_at p n k d l) ∙ e in let y : ◌≡◌ {A = ℕ} 0 1 = cc in omega arith)
+use Rattle.patch_text.specs.Steps.{FirstFeed, closed_length, placed, placed_at, pixel_of, pixel_at}
 
 -- ---- one byte
 module _ (w : ℕ) (m : List ℕ) where
@@ -313,17 +287,6 @@ place_in i w h z o n p q l =
 abbrev pub NoMask : List ℕ → Type 0
 NoMask b = (w h : ℕ) (m : List ℕ) → Reads b w h m → ⊥
 
-pub measured_none : {b : List ℕ} (w h : ℕ) → w ≡ 0 → NoMask b → Measured b w h
-measured_none w h e f = record { reads = λ l. absurd (omega arith); none = λ z. f }
-
-pub measured_reads : {b : List ℕ} (w h : ℕ) → 1 ≤ w → Reads b w h (table (pixel_at b w) (w * h)) → Measured b w h
-measured_reads w h l r = record { reads = λ k. r; none = λ z. absurd (omega arith) }
-
-all_true : (p : ℕ → Bool) (n : ℕ) → ((k : ℕ) → k < n → p k ≡ true) → all p n ≡ true
-unfolding all
-all_true p zero h = refl
-all_true p (suc n) h = and_both (all p n) (p n) (all_true p n (λ k l. h k (omega arith))) (h n (omega arith))
-
 closed_some : (b : List ℕ) → length b ≤ closed_length b
 unfolding closed_length
 closed_some b = cond_elim (λ z. length b ≤ z) (eqb (get_or b (length b - 1) 0) feed) (length b) (length b + 1) (λ e. omega arith) (λ e. omega arith)
@@ -345,16 +308,14 @@ module _ (b : List ℕ) (r : ℕ) (f : FirstFeed b r) where
     pub many_lines : 64 < z / (r + 1) → NoMask b
     many_lines l w h m x = let d : z / (r + 1) ≡ h = ap (λ n. n / (r + 1)) (even w h m x) ∙ digits_div h (omega arith) in omega (arith, x.low)
 
-    pub unlettered : all (placed_at b r) (length b) ≡ false → NoMask b
+    pub unlettered : every (length b) (placed_at b r) ≡ false → NoMask b
     unlettered n w h m x =
-        let t : all (placed_at b r) (length b) ≡ true = all_true (placed_at b r) (length b) (λ k l. ap (λ i. placed_at b i k) (first_is x r f) ∙ placed_all x k l) in
-        let q : true ≡ false = sym t ∙ n in
-        let y : ◌≡◌ {A = ℕ} 0 1 = cc in
-        omega arith
+        let t = one_every (placed_at b r) (length b) (λ k l. ap (λ i. placed_at b i k) (first_is x r f) ∙ placed_all x k l) in
+        true≢false (sym t ∙ n)
 
-    pub lettered_mask : 1 ≤ r → r ≤ 64 → z % (r + 1) ≡ 0 → z / (r + 1) ≤ 64 → all (placed_at b r) (length b) ≡ true
+    pub lettered_mask : 1 ≤ r → r ≤ 64 → z % (r + 1) ≡ 0 → z / (r + 1) ≤ 64 → every (length b) (placed_at b r) ≡ true
         → Reads b r (z / (r + 1)) (table (pixel_at b r) (r * (z / (r + 1))))
-    lettered_mask a c d g t = reads_is b r (z / (r + 1)) a c high g (sym e ∙ whole) (λ k l. all_at (placed_at b r) (length b) k t l)
+    lettered_mask a c d g t = reads_is b r (z / (r + 1)) a c high g (sym e ∙ whole) (λ k l. every_one (placed_at b r) (length b) t k l)
       where
         whole : z ≡ z / (r + 1) * (r + 1)
         whole = omega (arith, div-add-mod' z (r + 1))

@@ -1,6 +1,7 @@
 -- What the steps of reading and printing do. Assumes nothing.
-use Rattle.std.specs.Prelude.{ℕ, zero, suc, ◌+◌, ◌-◌, ◌*◌, ◌/◌, ◌%◌, ◌≤◌, ◌<◌, ◌≡◌, Bool, true, cond, ◌&&◌, ◌||◌, List, ◌++◌, eqb, length, get_or, take}
+use Rattle.std.specs.Prelude.{ℕ, ◌+◌, ◌-◌, ◌*◌, ◌/◌, ◌%◌, ◌≤◌, ◌<◌, ◌≡◌, Bool, cond, ◌||◌, Option, Some, None, List, ◌++◌, eqb, length, get_or, take}
 use Rattle.base.specs.Loops.{table}
+use Rattle.patch_text.specs.declared.read.Size.{Size}
 use Rattle.patch_text.specs.Text.{hash, dot, feed, Reads}
 
 -- r is the place of the first line feed, or the length where there is none
@@ -20,10 +21,6 @@ placed w x c = cond (eqb x w) (eqb c feed) (eqb c hash || eqb c dot)
 unfoldable pub placed_at : List ℕ → ℕ → ℕ → Bool
 placed_at b w k = placed w (k % (w + 1)) (get_or b k 0)
 
-unfoldable pub all : (ℕ → Bool) → ℕ → Bool
-all p zero = true
-all p (suc n) = all p n && p n
-
 unfoldable pub pixel_of : ℕ → ℕ
 pixel_of c = cond (eqb c hash) 1 0
 
@@ -31,10 +28,10 @@ pixel_of c = cond (eqb c hash) 1 0
 unfoldable pub pixel_at : List ℕ → ℕ → ℕ → ℕ
 pixel_at b w i = pixel_of (get_or b (i / w * (w + 1) + i % w) 0)
 
--- the size of the mask that the text is; 0 by 0 where it is none
-pub record Measured (b : List ℕ) (w h : ℕ) : Type 0 where
-  pub reads : 1 ≤ w → Reads b w h (table (pixel_at b w) (w * h))
-  pub none : w ≡ 0 → (w h : ℕ) (m : List ℕ) → Reads b w h m → ⊥
+-- the size of the mask that the text is, if it is one
+abbrev pub Measured : List ℕ → Option Size → Type 0
+Measured b (Some s) = Reads b s.w s.h (table (pixel_at b s.w) (s.w * s.h))
+Measured b None = (w h : ℕ) (m : List ℕ) → Reads b w h m → ⊥
 
 -- t was written from `at` up to r
 pub record Written (o o' : List ℕ) (at r most : ℕ) (t : List ℕ) : Type 0 where

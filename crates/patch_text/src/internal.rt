@@ -1,12 +1,14 @@
 // What the programs `patches` and `test_patches` run; for `most_patches` and its test program the
-// text of a refusal and the length of a line.
+// text of a refusal, the length of a line and a mask's size.
 ghost use Rattle.std.specs.Prelude.{◌≡◌, ◌≤◌, length, take};
 ghost use Rattle.patch_text.specs.Text.{Answered, AnsweredWhole};
 
 pub use crate::print::refused;
-pub use crate::read::line_length;
+pub use crate::read::{Size, line_length};
 use crate::{print, read};
 
+// The largest mask is 64 by 64 pixels.
+const MOST_PIXELS: usize = 64 * 64;
 // What a program reads of its input: the 64 lines of 65 bytes of the largest mask and one byte
 // more, by which longer input is told from the largest mask and refused.
 pub const INPUT_LENGTH: usize = 64 * 65 + 1;
@@ -22,44 +24,30 @@ pub fn answer(input: &[u8; INPUT_LENGTH], n: usize, out: &mut [u8; OUTPUT_LENGTH
     ensures answered_whole { AnsweredWhole input.now n (take result out.new) }
     ensures upper_bound { (result ≤ length out.new) × (result ≡ length (take result out.new)) }
 {
-    let mut mask = [0u8; 4096];
-    let mut seen = [0u8; 4096];
-    let mut waiting = [0u32; 4096];
-    let mut patches = [0u64; 16384];
-    let all = &input[..];
-    answer_text(
-        &all[..n],
-        &mut mask,
-        &mut seen,
-        &mut waiting,
-        &mut patches,
-        out,
-    )
+    answer_text(&input[..n], out)
 }
 
-// The same for a text that is the whole input. The other areas are work space for the largest mask.
-fn answer_text(
-    text: &[u8],
-    mask: &mut [u8],
-    seen: &mut [u8],
-    waiting: &mut [u32],
-    patches: &mut [u64],
-    out: &mut [u8],
-) -> usize
-    requires { (4096 ≤ length mask.old) × (4096 ≤ length seen.old) × (4096 ≤ length waiting.old) ×
-        (16384 ≤ length patches.old) × (344127 ≤ length out.old) }
+// The same for a text that is the whole input.
+fn answer_text(text: &[u8], out: &mut [u8; OUTPUT_LENGTH]) -> usize
     ensures answered { Answered text.now (take result out.new) }
     ensures upper_bound { (result ≤ length out.new) × (result ≡ length (take result out.new)) }
 {
-    let size = read::mask_size(text);
-    let w = size.w;
-    let h = size.h;
-    if w == 0 {
+    let Some(size) = read::mask_size(text) else {
         return print::refused(out);
-    }
-    read::fill(text, w, h, mask);
-    let n = w * h;
-    let labelled = blobs::label_blobs(&mask[..n], w, h, seen, waiting, patches);
-    let count = labelled.patches;
-    print::list(w as u64, h as u64, patches, count, out)
+    };
+    let Size { w, h } = size;
+    let mut mask = [0u8; MOST_PIXELS];
+    let mut seen = [0u8; MOST_PIXELS];
+    let mut waiting = [0u32; MOST_PIXELS];
+    let mut patches = [0u64; blobs::RECORD_LENGTH * MOST_PIXELS / 2];
+    read::fill(text, size, &mut mask);
+    let labelled = blobs::label_blobs(
+        &mask[..w * h],
+        w,
+        h,
+        &mut seen,
+        &mut waiting,
+        &mut patches,
+    ).unwrap();
+    print::list(size, &patches, labelled.patches, out)
 }

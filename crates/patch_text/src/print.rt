@@ -5,7 +5,9 @@ ghost use Rattle.blobs.specs.Patches.{record_length, patch_at};
 ghost use Rattle.patch_text.specs.Text.{decimal, field, record_line, record_lines, patch_text, refused_text};
 ghost use Rattle.patch_text.specs.Steps.{Written};
 
+use crate::read::Size;
 use blobs::Blob;
+use blobs::internal::blob_at;
 
 // Writes all of `bytes` from `at` on.
 fn copy(bytes: &[u8], out: &mut [u8], at: usize) -> usize
@@ -13,12 +15,9 @@ fn copy(bytes: &[u8], out: &mut [u8], at: usize) -> usize
     ensures { (take result out.new ≡ take at out.old ++ bytes.now) ×
         (result ≡ at + length bytes.now) }
 {
-    let mut i = 0;
-    while i < bytes.len() {
-        out[at + i] = bytes[i];
-        i += 1;
-    }
-    at + i
+    let end = at + bytes.len();
+    out[at..end].copy_from_slice(bytes);
+    end
 }
 
 // Writes a number's digits at the end of `digits`, and answers where they begin.
@@ -55,14 +54,11 @@ fn put_record(out: &mut [u8], at: usize, b: Blob) -> usize
     requires { at + 168 ≤ length out.old }
     ensures { Written out.old out.new at result 168 (record_line b) }
 {
-    let e0 = put(out, at, b.area, b' ');
-    let e1 = put(out, e0, b.sx, b' ');
-    let e2 = put(out, e1, b.sy, b' ');
-    let e3 = put(out, e2, b.x0, b' ');
-    let e4 = put(out, e3, b.y0, b' ');
-    let e5 = put(out, e4, b.x1, b' ');
-    let e6 = put(out, e5, b.y1, b' ');
-    put(out, e6, b.outline, b'\n')
+    let mut end = at;
+    for n in [b.area, b.sx, b.sy, b.x0, b.y0, b.x1, b.y1] {
+        end = put(out, end, n, b' ');
+    }
+    put(out, end, b.outline, b'\n')
 }
 
 // Writes the first n records' lines.
@@ -72,25 +68,22 @@ fn put_records(out: &mut [u8], at: usize, patches: &[u64], n: usize) -> usize
         (record_lines (table (patch_at patches.now) n)) }
 {
     let mut end = at;
-    let mut j = 0;
-    while j < n {
-        let b = blobs::internal::blob_at(patches, j);
-        end = put_record(out, end, b);
-        j += 1;
+    for j in 0..n {
+        end = put_record(out, end, blob_at(patches, j));
     }
     end
 }
 
-// Writes the list of n patches of a mask w by h.
-pub fn list(w: u64, h: u64, patches: &[u64], n: usize, out: &mut [u8]) -> usize
+// Writes the list of n patches of a mask of this size.
+pub fn list(size: Size, patches: &[u64], n: usize, out: &mut [u8]) -> usize
     requires { (63 + 168 * n ≤ length out.old) × (record_length * n ≤ length patches.now) }
-    ensures { (take result out.new ≡ patch_text w h (table (patch_at patches.now) n)) ×
+    ensures { (take result out.new ≡ patch_text size.w size.h (table (patch_at patches.now) n)) ×
         (result ≤ length out.new) }
 {
-    let e0 = put(out, 0, w, b' ');
-    let e1 = put(out, e0, h, b' ');
-    let e2 = put(out, e1, n as u64, b'\n');
-    put_records(out, e2, patches, n)
+    let width = put(out, 0, size.w as u64, b' ');
+    let sides = put(out, width, size.h as u64, b' ');
+    let head = put(out, sides, n as u64, b'\n');
+    put_records(out, head, patches, n)
 }
 
 // Writes the refusal.

@@ -1,5 +1,4 @@
 -- Patch and candidate lists as lent slices of records (requirements, 16.8). Assumes nothing.
-use Rattle.std.specs.Prelude.{ℕ, List, get_or}
 use Rattle.float.specs.Floats.{f64}
 use Rattle.blobs.specs.declared.Blob.{Blob}
 use Rattle.candidates.specs.declared.Candidate.{Candidate}
@@ -10,10 +9,3 @@ no_patch = record { area = 0; sx = 0; sy = 0; x0 = 0; y0 = 0; x1 = 0; y1 = 0; ou
 
 abbrev pub no_candidate : Candidate
 no_candidate = record { center = record { x = f64 0; y = f64 0 }; score = f64 0; size = f64 0; blob_index = 0 }
-
--- record j of a list of records
-abbrev pub patch_in : List Blob → ℕ → Blob
-patch_in l j = get_or l j no_patch
-
-abbrev pub candidate_in : List Candidate → ℕ → Candidate
-candidate_in l j = get_or l j no_candidate

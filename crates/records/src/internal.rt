@@ -1,8 +1,7 @@
 // Store and fetch of one record in a lent slice of records.
-ghost use Rattle.std.specs.Prelude.{◌≡◌, ◌+◌, ◌*◌, ◌≤◌, ◌<◌, length, set};
+ghost use Rattle.std.specs.Prelude.{◌≡◌, ◌+◌, ◌*◌, ◌≤◌, ◌<◌, length, get_or, set};
 ghost use Rattle.blobs.specs.Patches.{record_length, patch_at};
 ghost use Rattle.candidates.specs.Ring.{candidate_at};
-ghost use Rattle.records.specs.Records.{patch_in, candidate_in};
 
 use blobs::Blob;
 use candidates::Candidate;
@@ -15,14 +14,6 @@ pub fn store_patch(records: &mut [Blob], patches: &[u64], j: usize)
     records[j] = blobs::internal::blob_at(patches, j);
 }
 
-// Record j of the slice.
-pub fn fetch_patch(records: &[Blob], j: usize) -> Blob
-    requires { j < length records.now }
-    ensures { result ≡ patch_in records.now j }
-{
-    records[j]
-}
-
 // Record i of the flat candidate lists, stored as record i of the slice.
 pub fn store_candidate(records: &mut [Candidate], candidates: &[f64], blob_index: &[u32], i: usize)
     requires { (i < length records.old) × (4 * i + 3 < length candidates.now)
@@ -33,10 +24,10 @@ pub fn store_candidate(records: &mut [Candidate], candidates: &[f64], blob_index
     records[i] = candidates::internal::candidate_at(candidates, blob_index, i);
 }
 
-// Record i of the slice.
-pub fn fetch_candidate(records: &[Candidate], i: usize) -> Candidate
-    requires { i < length records.now }
-    ensures { result ≡ candidate_in records.now i }
+// The record at a place of the slice, whatever stands for one that the slice does not have.
+pub fn fetch<T: Copy>(records: &[T], place: usize) -> T
+    requires { place < length records.now }
+    ensures { (none : T) → result ≡ get_or records.now place none }
 {
-    records[i]
+    records[place]
 }

@@ -1,22 +1,20 @@
 -- The definitions, by the cases that the code goes by. Assumes nothing.
-use mathlib.Core.Path.{◌≡◌, refl, sym, ap, ◌∙◌}
+use mathlib.Core.Path.{◌≡◌, refl, ◌∙◌}
 use mathlib.Core.Bool.{Bool, true, false, cond, ◌&&◌}
 use Prim.Native.Nat.{ℕ, ◌+◌, ◌<◌, ◌≤◌}
 use native.Mathlib.Omega.{arith}
 use lib.Dec.{ltb}
-use lib.Ieee.{Float, lt}
+use lib.Ieee.{Float}
 use borrow.Author.Tests.{lt-ltb, le-ltb}
 use Rattle.base.proofs.Pick.{pick_yes, pick_no}
 use Rattle.frame.specs.Image.{Image}
 use Rattle.base.proofs.Tests.{and_both}
 use Rattle.frame.specs.declared.FrameSpec.{FrameSpec}
 use Rattle.frame.specs.declared.Quad.{Quad}
-use Rattle.frame.specs.declared.Verdict.TheVariants.{Accepted, Refused}
 use Rattle.fit.specs.declared.GeometryFit.{GeometryFit}
-use Rattle.fit.specs.declared.Fitted.{Fitted}
 use Rattle.fit.specs.declared.Grade.{Grade}
-use Rattle.fit.specs.Grid.{grade_of, score_of}
-use Rattle.fit.specs.Fits.{fits_for, fit_for, no_fit, unfitted, fitted_for}
+use Rattle.fit.specs.Grid.{grade_of}
+use Rattle.fit.specs.Fits.{fits_for, fit_for, no_fit}
 use Rattle.search.specs.declared.Trial.{Trial}
 use Rattle.search.specs.declared.Outcome.{Outcome}
 use Rattle.search.specs.declared.Outcome.TheVariants.{NoHomography, Graded}
@@ -25,27 +23,7 @@ use Rattle.search.specs.declared.Search.{Search}
 use Rattle.search.specs.Stages.{replaces, staged, takes, stays, begun, keeps, entries, outcome_of}
 use Rattle.search.specs.Turn.{trial_of, advanced}
 
--- ---- what a stage keeps
-pub replaces_none : {o : Outcome} (g : Grade) → o ≡ NoHomography → true ≡ replaces o g
-unfolding replaces
-replaces_none g e = sym (ap (λ z. replaces z g) e)
-
-pub replaces_more : {o : Outcome} (b g : Grade) → o ≡ Graded b → lt (score_of b) (score_of g) ≡ replaces o g
-unfolding replaces
-replaces_more b g e = sym (ap (λ z. replaces z g) e)
-
-module _ (c : ℕ) (t : GeometryFit) (s : Stage) {o : Outcome} where
-  pub staged_none : o ≡ NoHomography → record { kept = s.kept; fit = s.fit; tried = s.tried + c; homographies = s.homographies } ≡ staged c o t s
-  unfolding staged
-  staged_none e = sym (ap (λ z. staged c z t s) e)
-
-  pub staged_takes : {g : Grade} → o ≡ Graded g → replaces s.kept g ≡ true → takes c g t s ≡ staged c o t s
-  unfolding staged
-  staged_takes e r = pick_yes _ _ _ r ∙ sym (ap (λ z. staged c z t s) e)
-
-  pub staged_stays : {g : Grade} → o ≡ Graded g → replaces s.kept g ≡ false → stays c s ≡ staged c o t s
-  unfolding staged
-  staged_stays e r = pick_no _ _ _ r ∙ sym (ap (λ z. staged c z t s) e)
+-- ---- what a stage counts
 
 -- what a trial that adds c to the trials adds to the homographies
 unfoldable pub mapped_by : Outcome → ℕ → ℕ
@@ -65,32 +43,6 @@ pub mapped_most : (o : Outcome) (c : ℕ) → mapped_by o c ≤ c
 unfolding mapped_by
 mapped_most NoHomography c = omega arith
 mapped_most (Graded g) c = omega arith
-
--- ---- a trial
-module _ (img : Image) (f : FrameSpec) (q : Quad) (k : Float) (s : Fitted) (e : s ≡ fitted_for img.w img.h f q k) where
-  pub trial_graded : {g : Grade} → s.verdict ≡ Accepted → g ≡ grade_of img f s.fit → record { outcome = Graded g; fit = s.fit } ≡ trial_of img f q k
-  unfolding fitted_for trial_of unfitted
-  trial_graded {g} v r = go (fits_for img.w img.h f q k) e
-    where
-      go : (b : Bool)
-          → s ≡ cond b (record { verdict = Accepted; fit = fit_for img.w img.h f q k }) (unfitted 10)
-          → ◌≡◌ {A = Trial} (record { outcome = Graded g; fit = s.fit })
-          (cond b (record { outcome = Graded (grade_of img f (fit_for img.w img.h f q k)); fit = fit_for img.w img.h f q k }) (record { outcome = NoHomography; fit = no_fit }))
-      go true e =
-          ap (λ z. record { outcome = Graded z; fit = s.fit }) r
-          ∙ ap (λ (z : Fitted). record { outcome = Graded (grade_of img f z.fit); fit = z.fit }) e
-      go false e = absurd (let d : Refused 10 ≡ Accepted = sym (ap (λ (z : Fitted). z.verdict) e) ∙ v in let z : ◌≡◌ {A = ℕ} 0 1 = cc in omega arith)
-
-  pub trial_none : {n : ℕ} → s.verdict ≡ Refused n → record { outcome = NoHomography; fit = s.fit } ≡ trial_of img f q k
-  unfolding fitted_for trial_of unfitted
-  trial_none {n} v = go (fits_for img.w img.h f q k) e
-    where
-      go : (b : Bool)
-          → s ≡ cond b (record { verdict = Accepted; fit = fit_for img.w img.h f q k }) (unfitted 10)
-          → ◌≡◌ {A = Trial} (record { outcome = NoHomography; fit = s.fit })
-          (cond b (record { outcome = Graded (grade_of img f (fit_for img.w img.h f q k)); fit = fit_for img.w img.h f q k }) (record { outcome = NoHomography; fit = no_fit }))
-      go true e = absurd (let d : Accepted ≡ Refused n = sym (ap (λ (z : Fitted). z.verdict) e) ∙ v in let z : ◌≡◌ {A = ℕ} 0 1 = cc in omega arith)
-      go false e = ap (λ (z : Fitted). record { outcome = NoHomography; fit = z.fit }) e
 
 -- a stage takes a trial by its outcome; the fit counts only where there is a homography
 pub staged_trial : (c : ℕ) (img : Image) (f : FrameSpec) (q : Quad) (k : Float) (s : Stage)

@@ -207,7 +207,7 @@ module _ (img : Image) (f : FrameSpec) (q : Quad) where
       go : (o : Outcome) → s.kept ≡ o → (on_kept s.kept s next).kept ≡ Graded g → Followed j s
       go NoHomography k e =
           let c : s.kept ≡ Graded g = sym (ap (λ (z : Outcome). (on_kept z s next).kept) k) ∙ e in
-          absurd (let z : ◌≡◌ {A = ℕ} 0 1 = cc in omega arith)
+          cc
       go (Graded b) k e = record { kept_before = (b, k); is = ap (λ z. on_kept z s next) k }
 
   -- the k that a stage keeps is one of its terms

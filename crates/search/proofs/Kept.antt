@@ -42,7 +42,7 @@ graded img f q k g e = go (fits_for img.w img.h f q k) e
   where
     go : (b : Bool) → cond b (Graded (grade_of img f (fit_for img.w img.h f q k))) NoHomography ≡ Graded g → T b
     go true e = tt
-    go false e = let z : ◌≡◌ {A = ℕ} 0 1 = cc in absurd (omega arith)
+    go false e = cc
 
 -- .. and that grade is its fit's
 graded_as : (img : Image) (f : FrameSpec) (q : Quad) (k : Float) (g : Grade) → outcome_of img f q k ≡ Graded g → g ≡ grade_of img f (fit_for img.w img.h f q k)
@@ -51,7 +51,7 @@ graded_as img f q k g e = go (fits_for img.w img.h f q k) e
   where
     go : (b : Bool) → cond b (Graded (grade_of img f (fit_for img.w img.h f q k))) NoHomography ≡ Graded g → g ≡ grade_of img f (fit_for img.w img.h f q k)
     go true e = cc
-    go false e = let z : ◌≡◌ {A = ℕ} 0 1 = cc in absurd (omega arith)
+    go false e = cc
 
 module _ (img : Image) (f : FrameSpec) (q : Quad) (j : ℕ) (center : Float) (tried homographies : ℕ) where
   -- the trial that a stage keeps is its best, and the first of the best
@@ -61,7 +61,7 @@ module _ (img : Image) (f : FrameSpec) (q : Quad) (j : ℕ) (center : Float) (tr
     where
       go : Keeps (λ i. outcome_of img f q (k_at j center i)) (λ i. fit_for img.w img.h f q (k_at j center i)) (entries j) (stage_from img f q j center tried homographies)
           → BestTrial img f q j center (stage_from img f q j center tried homographies).fit
-      go (none k h) = absurd (let z : ◌≡◌ {A = ℕ} 0 1 = cc in omega arith)
+      go (none k h) = cc
       go (some a b l p k r m u) =
           record {
             entry = a;
@@ -79,7 +79,7 @@ module _ (img : Image) (f : FrameSpec) (q : Quad) (j : ℕ) (center : Float) (tr
     where
       go : Keeps (λ i. outcome_of img f q (k_at j center i)) (λ i. fit_for img.w img.h f q (k_at j center i)) (entries j) (stage_from img f q j center tried homographies)
           → g ≡ grade_of img f (stage_from img f q j center tried homographies).fit
-      go (none k h) = absurd (let z : ◌≡◌ {A = ℕ} 0 1 = cc in omega arith)
+      go (none k h) = cc
       go (some a b l p k r m u) =
           let s : b ≡ g = cc in
           sym s ∙ graded_as img f q (k_at j center a) b p ∙ ap (grade_of img f) (sym r)
@@ -92,7 +92,7 @@ module _ (img : Image) (f : FrameSpec) (q : Quad) (j : ℕ) (center : Float) (tr
       go : Keeps (λ i. outcome_of img f q (k_at j center i)) (λ i. fit_for img.w img.h f q (k_at j center i)) (entries j) (stage_from img f q j center tried homographies)
           → (i : ℕ) → i < entries j → outcome_of img f q (k_at j center i) ≡ NoHomography
       go (none k h) = h
-      go (some a b l p k r m u) = absurd (let z : ◌≡◌ {A = ℕ} 0 1 = cc in omega arith)
+      go (some a b l p k r m u) = cc
 
 -- a search that keeps a trial ends with its third stage
 last_stage : (img : Image) (f : FrameSpec) (q : Quad) (g : Grade) → (searched img f q).kept ≡ Graded g → searched img f q
@@ -105,7 +105,7 @@ last_stage img f q g e =
     go : (s n : Stage) (o : Outcome) → s.kept ≡ o → (on_kept s.kept s n).kept ≡ Graded g → on_kept s.kept s n ≡ n
     go s n NoHomography k e =
         let d : on_kept s.kept s n ≡ s = ap (λ z. on_kept z s n) k in
-        absurd (let c : s.kept ≡ Graded g = sym (ap (λ (z : Stage). z.kept) d) ∙ e in let z : ◌≡◌ {A = ℕ} 0 1 = cc in omega arith)
+        let c : s.kept ≡ Graded g = sym (ap (λ (z : Stage). z.kept) d) ∙ e in cc
     go s n (Graded b) k e = ap (λ z. on_kept z s n) k
 
 module _ (img : Image) (f : FrameSpec) (q : Quad) (g : Grade) (e : (searched img f q).kept ≡ Graded g) where
@@ -143,7 +143,7 @@ some_grade (Graded g) h = (g, refl)
 keeps_none : (o : Outcome) → o ≡ NoHomography → T (not (keeps o))
 unfolding keeps
 keeps_none NoHomography e = tt
-keeps_none (Graded g) e = let z : ◌≡◌ {A = ℕ} 0 1 = cc in absurd (omega arith)
+keeps_none (Graded g) e = cc
 
 module _ (img : Image) (f : FrameSpec) (q : Quad) where
   without : (k : Float) → outcome_of img f q k ≡ NoHomography → T (not (fits_for img.w img.h f q k))
@@ -151,7 +151,7 @@ module _ (img : Image) (f : FrameSpec) (q : Quad) where
   without k e = go (fits_for img.w img.h f q k) e
     where
       go : (b : Bool) → cond b (Graded (grade_of img f (fit_for img.w img.h f q k))) NoHomography ≡ NoHomography → T (not b)
-      go true e = let z : ◌≡◌ {A = ℕ} 0 1 = cc in absurd (omega arith)
+      go true e = cc
       go false e = tt
 
   -- one stage
@@ -189,7 +189,7 @@ module _ (img : Image) (f : FrameSpec) (q : Quad) where
     where
       go : (o : Outcome) → s.kept ≡ o → o ≡ NoHomography → T (not (keeps (on_kept o s (stage_from img f q j s.fit.radial.k s.tried s.homographies)).kept))
       go NoHomography e n = keeps_none s.kept e
-      go (Graded g) e n = let z : ◌≡◌ {A = ℕ} 0 1 = cc in absurd (omega arith)
+      go (Graded g) e n = cc
 
   pub search_barren : T (not (keeps (searched img f q).kept)) → BarrenStage img f q
   unfolding searched second_stage first_stage last_center

@@ -8,9 +8,10 @@ ghost use Rattle.search.specs.Turn as state;
 
 use crate::{Outcome, Search, Stage, Trial, stages};
 use fit::internal::{fitted, grade};
-use frame::{FrameSpec, Quad, Verdict};
+use frame::{FrameSpec, Quad};
 
 // The trial of a lens term.
+#[tactic(auto, unfolding(crate::specs::Turn::trial_of, fit::specs::Fits::fitted_for, fit::specs::Fits::unfitted))]
 fn trial(
     capture: &[u8],
     w: usize,
@@ -23,21 +24,14 @@ fn trial(
     requires { CaptureHeld (image w h capture.now) × FrameHeld frame × (length means.old ≡ sampled_cells frame) }
     ensures { result ≡ state.trial_of (image w h capture.now) frame quad k }
 {
-    let f = fitted(w, h, frame, quad, k);
-    let verdict = f.verdict;
-    let fit = f.fit;
-    match verdict {
-        Verdict::Accepted => {
-            let g = grade(capture, w, h, frame, fit, means);
-            Trial {
-                outcome: Outcome::Graded(g),
-                fit: fit,
-            }
-        }
-        Verdict::Refused(_) => Trial {
-            outcome: Outcome::NoHomography,
-            fit: fit,
-        },
+    let fitted = fitted(w, h, frame, quad, k);
+    let outcome = match fitted.verdict {
+        Ok(()) => Outcome::Graded(grade(capture, w, h, frame, fitted.fit, means)),
+        Err(_) => Outcome::NoHomography,
+    };
+    Trial {
+        outcome,
+        fit: fitted.fit,
     }
 }
 
@@ -45,17 +39,17 @@ fn trial(
 pub fn begin() -> Search
     ensures { result ≡ state.beginning }
 {
-    let stage = stages::begun(0, 0);
     Search {
         number: 0,
         entry: 0,
         center: 0.0,
-        stage: stage,
+        stage: stages::begun(0, 0),
         ended: false,
     }
 }
 
 // One trial more, unless the search has ended.
+#[tactic(auto, using(crate::proofs::Cases::staged_trial), unfolding(crate::specs::Turn::turn_of))]
 pub fn turn(
     capture: &[u8],
     w: usize,
@@ -72,14 +66,10 @@ pub fn turn(
     if search.ended {
         return search;
     }
-    let stage = search.stage;
     let k = stages::k_at(search.number, search.center, search.entry);
     let counted = stages::fresh(search.number, search.center, search.entry);
-    let t = trial(capture, w, h, frame, quad, k, means);
-    let outcome = t.outcome;
-    let fit = t.fit;
-    let next = stages::keep(outcome, fit, counted, stage);
-    stages::advance(search, next)
+    let trial = trial(capture, w, h, frame, quad, k, means);
+    stages::advance(search, stages::keep(trial, counted, search.stage))
 }
 
 // What a search has kept and counted.

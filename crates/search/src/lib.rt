@@ -37,7 +37,7 @@ pub struct Stage {
 }
 
 // The lens search between two trials: the stage's number, the entry to be tried next, the k that
-// the stage goes around, and the stage so far.
+// the stage goes around, and the stage so far. One that has ended keeps all of them.
 #[derive(Clone, Copy)]
 pub struct Search {
     pub number: usize,

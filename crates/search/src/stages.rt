@@ -3,11 +3,12 @@ ghost use Rattle.std.specs.Prelude.{◌≡◌, true, false, ◌+◌, ◌≤◌, 
 ghost use Rattle.search.specs.Stages as spec;
 ghost use Rattle.search.specs.Turn.{advanced};
 
-use crate::{Outcome, Search, Stage};
+use crate::{Outcome, Search, Stage, Trial};
+use fit::Grade;
 use fit::internal::score_of;
-use fit::{GeometryFit, Grade};
 
 // A trial with this grade takes the place of the kept one: of none, and else only by scoring more.
+#[tactic(auto, unfolding(crate::specs::Stages::replaces))]
 fn replaces(kept: Outcome, g: Grade) -> bool
     ensures { result ≡ spec.replaces kept g }
 {
@@ -18,34 +19,28 @@ fn replaces(kept: Outcome, g: Grade) -> bool
 }
 
 // The stage after one more trial, which adds `counted` to its counts.
-pub fn keep(outcome: Outcome, fit: GeometryFit, counted: usize, s: Stage) -> Stage
+#[tactic(auto, unfolding(crate::specs::Stages::staged))]
+pub fn keep(trial: Trial, counted: usize, s: Stage) -> Stage
     requires { (counted ≤ 1) × (s.tried < 4294967295) × (s.homographies < 4294967295) }
-    ensures { result ≡ spec.staged counted outcome fit s }
+    ensures { result ≡ spec.staged counted trial.outcome trial.fit s }
 {
-    let kept = s.kept;
-    let before = s.fit;
     let tried = s.tried + counted;
-    match outcome {
-        Outcome::NoHomography => Stage {
-            kept: kept,
-            fit: before,
-            tried: tried,
-            homographies: s.homographies,
-        },
+    match trial.outcome {
+        Outcome::NoHomography => Stage { tried, ..s },
         Outcome::Graded(g) => {
-            if replaces(kept, g) {
+            let homographies = s.homographies + counted;
+            if replaces(s.kept, g) {
                 return Stage {
-                    kept: Outcome::Graded(g),
-                    fit: fit,
-                    tried: tried,
-                    homographies: s.homographies + counted,
+                    kept: trial.outcome,
+                    fit: trial.fit,
+                    tried,
+                    homographies,
                 };
             }
             Stage {
-                kept: kept,
-                fit: before,
-                tried: tried,
-                homographies: s.homographies + counted,
+                tried,
+                homographies,
+                ..s
             }
         }
     }
@@ -55,38 +50,33 @@ pub fn keep(outcome: Outcome, fit: GeometryFit, counted: usize, s: Stage) -> Sta
 fn span(number: usize) -> f64
     ensures { result ≡ spec.span number }
 {
-    if number == 0 {
-        return crate::K_MAX;
+    match number {
+        0 => crate::K_MAX,
+        1 => 0.012,
+        _ => 0.0015,
     }
-    if number == 1 {
-        return 0.012;
-    }
-    0.0015
 }
 
 fn step(number: usize) -> f64
     ensures { result ≡ spec.step number }
 {
-    if number == 0 {
-        return 0.010;
+    match number {
+        0 => 0.010,
+        1 => 0.0012,
+        _ => 0.0002,
     }
-    if number == 1 {
-        return 0.0012;
-    }
-    0.0002
 }
 
 // Twice the span over the step, rounded, and one.
+#[tactic(auto, using(crate::proofs::Entries::stage_lengths))]
 fn entries(number: usize) -> usize
     ensures { result ≡ spec.entries number }
 {
-    if number == 0 {
-        return 41;
+    match number {
+        0 => 41,
+        1 => 21,
+        _ => 16,
     }
-    if number == 1 {
-        return 21;
-    }
-    16
 }
 
 // The lens term of an entry.
@@ -118,63 +108,48 @@ pub fn fresh(number: usize, center: f64, entry: usize) -> usize
 pub fn begun(tried: usize, homographies: usize) -> Stage
     ensures { result ≡ spec.begun tried homographies }
 {
-    let none = Outcome::NoHomography;
-    let fit = fit::internal::no_fit();
     Stage {
-        kept: none,
-        fit: fit,
-        tried: tried,
-        homographies: homographies,
+        kept: Outcome::NoHomography,
+        fit: fit::internal::no_fit(),
+        tried,
+        homographies,
     }
 }
 
 // A stage has kept a trial.
-pub fn keeps(kept: Outcome) -> bool
+#[tactic(auto, unfolding(crate::specs::Stages::keeps))]
+fn keeps(kept: Outcome) -> bool
     ensures { result ≡ spec.keeps kept }
 {
-    match kept {
-        Outcome::NoHomography => false,
-        Outcome::Graded(_) => true,
-    }
+    matches!(kept, Outcome::Graded(_))
 }
 
 // The search after an entry that left its stage as t.
+#[tactic(auto, unfolding(crate::specs::Turn::advanced))]
 pub fn advance(s: Search, t: Stage) -> Search
     requires { (s.number < 3) × (s.entry < 41) }
     ensures { result ≡ advanced s t }
 {
-    let number = s.number;
-    let entry = s.entry;
-    let center = s.center;
-    if entry + 1 < entries(number) {
+    if s.entry + 1 < entries(s.number) {
         return Search {
-            number: number,
-            entry: entry + 1,
-            center: center,
+            entry: s.entry + 1,
             stage: t,
+            ended: false,
+            ..s
+        };
+    }
+    if keeps(t.kept) && s.number < 2 {
+        return Search {
+            number: s.number + 1,
+            entry: 0,
+            center: t.fit.radial.k,
+            stage: begun(t.tried, t.homographies),
             ended: false,
         };
     }
-    let kept = t.kept;
-    if keeps(kept) {
-        if number < 2 {
-            let fit = t.fit;
-            let lens = fit.radial;
-            let next = begun(t.tried, t.homographies);
-            return Search {
-                number: number + 1,
-                entry: 0,
-                center: lens.k,
-                stage: next,
-                ended: false,
-            };
-        }
-    }
     Search {
-        number: number,
-        entry: entry,
-        center: center,
         stage: t,
         ended: true,
+        ..s
     }
 }

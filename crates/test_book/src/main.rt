@@ -5,15 +5,31 @@
 
 mod print; // print.rt: answers and areas on lines
 
-use base::min;
-use book::internal::{record_at, refused};
+use book::internal::{accepted, record_at};
 use book::{read_book, record_of, write_book};
 use console::Console;
 use fit::{GeometryFit, Grade};
-use frame::Number;
 use homography::Homography;
 use radial::Radial;
 use std::io;
+
+// What a call does, by its first word.
+#[derive(Clone, Copy)]
+enum Kind {
+    Read,
+    Write,
+    Keep,
+}
+
+impl From<u64> for Kind {
+    fn from(word: u64) -> Kind {
+        match word {
+            0 => Kind::Read,
+            1 => Kind::Write,
+            _ => Kind::Keep,
+        }
+    }
+}
 
 // A call at a time, to the end of stdin. The areas hold the longest book.
 fn main(rt: HostRuntime) -> io::Result<()> {
@@ -41,9 +57,9 @@ fn call(
     heads: &mut [u32],
     numbers: &mut [u64],
 ) {
-    let room = min(size_at(head, 2), book.len());
-    let listed = min(size_at(head, 3), heads.len());
-    let held = min(size_at(head, 4), numbers.len());
+    let room = size_at(head, 2).min(book.len());
+    let listed = size_at(head, 3).min(heads.len());
+    let held = size_at(head, 4).min(numbers.len());
     answer(
         console,
         head,
@@ -60,15 +76,15 @@ fn answer(
     heads: &mut [u32],
     numbers: &mut [u64],
 ) {
-    let kind = vectors::word(head, 0);
+    let kind = Kind::from(vectors::word(head, 0));
     let n = size_at(head, 1);
     console.read_full(book);
-    load_heads(console, kind, heads);
-    load_numbers(console, kind, numbers);
+    load(console, kind, heads, |word| (word % 0x1_0000_0000) as u32);
+    load(console, kind, numbers, |word| word);
     match kind {
-        0 => read(console, book, heads, numbers),
-        1 => write(console, heads, numbers, n, book),
-        _ => keep(console, heads, numbers, n),
+        Kind::Read => read(console, book, heads, numbers),
+        Kind::Write => write(console, heads, numbers, n, book),
+        Kind::Keep => keep(console, heads, numbers, n),
     }
 }
 
@@ -78,24 +94,19 @@ fn size_at(b: &[u8], i: usize) -> usize {
     vectors::word(b, i) as usize
 }
 
-fn load_heads(console: &mut Console, kind: u64, heads: &mut [u32]) {
-    for k in 0..heads.len() {
-        heads[k] = (entry(console, kind, k) % 0x1_0000_0000) as u32;
-    }
-}
-
-fn load_numbers(console: &mut Console, kind: u64, numbers: &mut [u64]) {
-    for k in 0..numbers.len() {
-        numbers[k] = entry(console, kind, k);
+fn load<T: Copy, F: Fn(u64) -> T>(console: &mut Console, kind: Kind, list: &mut [T], narrow: F)
+    requires { F.IsAlwaysCallable narrow }
+{
+    for (k, entry) in list.iter_mut().enumerate() {
+        *entry = narrow(entry_before(console, kind, k));
     }
 }
 
 // What entry k of a list is before the call. A list to be read into is not on stdin.
-fn entry(console: &mut Console, kind: u64, k: usize) -> u64 {
-    if kind == 0 {
-        0xa5a5_a5a5_a5a5_0000 + (k % 0x1_0000) as u64
-    } else {
-        next_word(console)
+fn entry_before(console: &mut Console, kind: Kind, k: usize) -> u64 {
+    match kind {
+        Kind::Read => 0xa5a5_a5a5_a5a5_0000 + (k % 0x1_0000) as u64,
+        Kind::Write | Kind::Keep => next_word(console),
     }
 }
 
@@ -109,25 +120,24 @@ fn next_word(console: &mut Console) -> u64 {
 
 fn read(console: &mut Console, book: &[u8], heads: &mut [u32], numbers: &mut [u64]) {
     let answer = read_book(book, heads, numbers);
-    print::number(console, answer);
+    print::answer(console, answer);
     print::heads(console, heads);
     print::numbers(console, numbers);
-    print::labelled(console, b"bytes ", refused(book) as u64);
-    match answer {
-        Number::Is(count) => again(console, heads, numbers, count, book.len()),
-        Number::Refused(_) => {}
+    print::alone(console, accepted(book));
+    if let Ok(count) = answer {
+        again(console, heads, numbers, count, book.len());
     }
 }
 
 // The book of what was read, in an area as long as the bytes were.
 fn again(console: &mut Console, heads: &[u32], numbers: &[u64], count: usize, length: usize) {
     let mut area = [0xeeu8; 65536];
-    let room = min(length, 65536);
+    let room = length.min(area.len());
     write(console, heads, numbers, count, &mut area[..room]);
 }
 
 fn write(console: &mut Console, heads: &[u32], numbers: &[u64], count: usize, book: &mut [u8]) {
-    print::number(console, write_book(heads, numbers, count, book));
+    print::answer(console, write_book(heads, numbers, count, book));
     print::book(console, book);
 }
 
@@ -142,8 +152,7 @@ fn keep(console: &mut Console, heads: &[u32], numbers: &[u64], j: usize) {
     let record = record_at(heads, numbers, j);
     print::record(console, record);
     print::fit(console, record.fit());
-    let patterns = record.numbers;
-    let fit = fit_of(patterns);
+    let fit = fit_of(record.numbers);
     print::record(
         console,
         record_of(record.panel, record.camera, grade_of(record.grade), fit),
@@ -165,12 +174,14 @@ fn fit_of(patterns: [u64; 13]) -> GeometryFit {
     for i in 0..9 {
         m[i] = vectors::double(patterns[i]);
     }
-    let h = Homography { m: m };
-    let lens = Radial {
+    let radial = Radial {
         k: vectors::double(patterns[9]),
         cx: vectors::double(patterns[10]),
         cy: vectors::double(patterns[11]),
         norm: vectors::double(patterns[12]),
     };
-    GeometryFit { h: h, radial: lens }
+    GeometryFit {
+        h: Homography { m },
+        radial,
+    }
 }

@@ -5,14 +5,13 @@
 
 ghost use Rattle.std.specs.Prelude.{◌≡◌, ◌+◌, ◌*◌, ◌≤◌, ◌<◌, length};
 
-use base::min;
-use candidates::fiducial_candidates;
 use candidates::internal::candidate_at;
+use candidates::{Counts, fiducial_candidates};
 use console::Console;
 use fiducials::internal::{one_way, too_small};
-use fiducials::{Places, detect_fiducials};
+use fiducials::{Corners, detect_fiducials};
 use frame::internal::fill_rect;
-use frame::{FrameSpec, Point, Quad, Rgb, Verdict};
+use frame::{FrameSpec, Point, Quad, Refusal, Rgb};
 use std::io;
 
 fn main(rt: HostRuntime) -> io::Result<()> {
@@ -114,7 +113,7 @@ fn draw_one(rects: &[u8], at: usize, w: usize, h: usize, bytes: &mut [u8])
     requires { (at + 5 ≤ length rects.now) × (w < 256) × (h < 256) × (length bytes.old ≡ 3 * w * h) }
 {
     let grey = rects[at + 4];
-    let c = Rgb {
+    let colour = Rgb {
         r: grey,
         g: grey,
         b: grey,
@@ -127,7 +126,7 @@ fn draw_one(rects: &[u8], at: usize, w: usize, h: usize, bytes: &mut [u8])
         number(rects, at + 1),
         number(rects, at + 2),
         number(rects, at + 3),
-        c,
+        colour,
     );
 }
 
@@ -141,7 +140,7 @@ fn find_candidates(console: &mut Console, capture: &[u8], w: usize, h: usize, fr
     let mut patches = [7u64; 36864];
     let mut records = [1.0; 1152];
     let mut blob_index = [7u32; 288];
-    let r = fiducial_candidates(
+    let found = fiducial_candidates(
         capture,
         w,
         h,
@@ -155,21 +154,20 @@ fn find_candidates(console: &mut Console, capture: &[u8], w: usize, h: usize, fr
         &mut records,
         &mut blob_index,
     );
-    let verdict = r.verdict;
-    print_counts(console, verdict, r.patches, r.candidates);
-    print_candidates(console, &records, &blob_index, r.candidates);
-}
-
-fn print_counts(console: &mut Console, verdict: Verdict, patches: usize, candidates: usize) {
-    print(console, number_of(verdict), b' ');
-    print(console, patches as u64, b' ');
-    print(console, candidates as u64, b'\n');
+    let counts = match found {
+        Ok(counts) => counts,
+        Err(_) => Counts::default(),
+    };
+    print(console, number_of(found), b' ');
+    print(console, counts.patches as u64, b' ');
+    print(console, counts.candidates as u64, b'\n');
+    print_candidates(console, &records, &blob_index, counts.candidates);
 }
 
 fn print_candidates(console: &mut Console, records: &[f64], blob_index: &[u32], k: usize)
     requires { (length records.now ≡ 1152) × (length blob_index.now ≡ 288) }
 {
-    for i in 0..min(k, 288) {
+    for i in 0..k.min(288) {
         print_candidate(console, records, blob_index, i);
     }
 }
@@ -178,8 +176,7 @@ fn print_candidate(console: &mut Console, records: &[f64], blob_index: &[u32], i
     requires { (4 * i + 3 < length records.now) × (i < length blob_index.now) }
 {
     let c = candidate_at(records, blob_index, i);
-    let center = c.center;
-    print_point(console, center);
+    print_point(console, c.center);
     print_float(console, c.score);
     print_float(console, c.size);
     print(console, c.blob_index as u64, b'\n');
@@ -194,7 +191,7 @@ fn find_corners(console: &mut Console, capture: &[u8], w: usize, h: usize, frame
     let mut patches = [7u64; 36864];
     let mut records = [1.0; 1152];
     let mut blob_index = [7u32; 288];
-    let r = detect_fiducials(
+    let detected = detect_fiducials(
         capture,
         w,
         h,
@@ -208,25 +205,17 @@ fn find_corners(console: &mut Console, capture: &[u8], w: usize, h: usize, frame
         &mut records,
         &mut blob_index,
     );
-    let verdict = r.verdict;
-    let quad = r.quad;
-    let places = r.places;
-    print_corners(console, number_of(verdict), quad, places);
+    print(console, number_of(detected.corners), b'\n');
+    if let Ok(corners) = detected.corners {
+        print_corners(console, corners);
+    }
 }
 
-fn print_corners(console: &mut Console, number: u64, q: Quad, s: Places) {
-    print(console, number, b'\n');
-    if number != 0 {
-        return;
-    }
-    let tl = q.tl;
-    let tr = q.tr;
-    let br = q.br;
-    let bl = q.bl;
-    print_corner(console, tl, s.tl);
-    print_corner(console, tr, s.tr);
-    print_corner(console, br, s.br);
-    print_corner(console, bl, s.bl);
+fn print_corners(console: &mut Console, corners: Corners) {
+    print_corner(console, corners.quad.tl, corners.places.tl);
+    print_corner(console, corners.quad.tr, corners.places.tr);
+    print_corner(console, corners.quad.br, corners.places.br);
+    print_corner(console, corners.quad.bl, corners.places.bl);
 }
 
 fn print_corner(console: &mut Console, p: Point, place: usize) {
@@ -251,10 +240,10 @@ fn print(console: &mut Console, n: u64, after: u8) {
 }
 
 // The refusal number, or 0.
-fn number_of(v: Verdict) -> u64 {
-    match v {
-        Verdict::Accepted => 0,
-        Verdict::Refused(n) => n as u64,
+fn number_of<T: Copy>(answer: Result<T, Refusal>) -> u64 {
+    match answer {
+        Ok(_) => 0,
+        Err(refusal) => refusal.number() as u64,
     }
 }
 

@@ -5,8 +5,8 @@
 ghost use Rattle.std.specs.Prelude.{◌+◌, ◌≤◌, length};
 
 use console::Console;
-use fit::{Fitted, GeometryFit, Grade, GridScore};
-use frame::{FrameSpec, Point, Quad, Verdict};
+use fit::{Fitted, GeometryFit, Grade};
+use frame::{FrameSpec, Point, Quad, Refusal};
 use homography::Homography;
 use radial::Radial;
 use std::io;
@@ -47,48 +47,39 @@ fn float_at(b: &[u8], i: usize) -> f64 {
 fn point_at(b: &[u8], i: usize) -> Point
     requires { i ≤ 100 }
 {
-    let x = float_at(b, i);
-    let y = float_at(b, i + 1);
-    Point { x: x, y: y }
-}
-
-fn frame_at(b: &[u8]) -> FrameSpec {
-    let width = size_at(b, 3);
-    let height = size_at(b, 4);
-    let cell = size_at(b, 5);
-    let margin = size_at(b, 6);
-    FrameSpec {
-        width: width,
-        height: height,
-        cell: cell,
-        margin: margin,
+    Point {
+        x: float_at(b, i),
+        y: float_at(b, i + 1),
     }
 }
 
+fn frame_at(b: &[u8]) -> FrameSpec {
+    FrameSpec {
+        width: size_at(b, 3),
+        height: size_at(b, 4),
+        cell: size_at(b, 5),
+        margin: size_at(b, 6),
+    }
+}
+
+fn matrix_at(b: &[u8]) -> Homography {
+    let mut m = [0.0; 9];
+    for i in 0..9 {
+        m[i] = float_at(b, 7 + i);
+    }
+    Homography { m }
+}
+
 fn geometry_at(b: &[u8]) -> GeometryFit {
-    let m = [
-        float_at(b, 7),
-        float_at(b, 8),
-        float_at(b, 9),
-        float_at(b, 10),
-        float_at(b, 11),
-        float_at(b, 12),
-        float_at(b, 13),
-        float_at(b, 14),
-        float_at(b, 15),
-    ];
-    let h = Homography { m: m };
-    let k = float_at(b, 16);
-    let cx = float_at(b, 17);
-    let cy = float_at(b, 18);
-    let norm = float_at(b, 19);
-    let lens = Radial {
-        k: k,
-        cx: cx,
-        cy: cy,
-        norm: norm,
-    };
-    GeometryFit { h: h, radial: lens }
+    GeometryFit {
+        h: matrix_at(b),
+        radial: Radial {
+            k: float_at(b, 16),
+            cx: float_at(b, 17),
+            cy: float_at(b, 18),
+            norm: float_at(b, 19),
+        },
+    }
 }
 
 // The capture is read from behind the record.
@@ -102,15 +93,11 @@ fn load(console: &mut Console, b: &[u8], capture: &mut [u8]) {
 // ---- the calls
 
 fn fit_at(b: &[u8]) -> Fitted {
-    let tl = point_at(b, 7);
-    let tr = point_at(b, 9);
-    let br = point_at(b, 11);
-    let bl = point_at(b, 13);
     let points = Quad {
-        tl: tl,
-        tr: tr,
-        br: br,
-        bl: bl,
+        tl: point_at(b, 7),
+        tr: point_at(b, 9),
+        br: point_at(b, 11),
+        bl: point_at(b, 13),
     };
     fit::fit_for(
         size_at(b, 1),
@@ -121,15 +108,15 @@ fn fit_at(b: &[u8]) -> Fitted {
     )
 }
 
-fn score_at(b: &[u8], capture: &[u8]) -> GridScore {
+fn score_at(b: &[u8], capture: &[u8]) -> Result<Grade, Refusal> {
     let mut means = [0.0; 1024];
     let bytes = size_at(b, 20);
     let n = size_at(b, 21);
     if bytes > capture.len() {
-        return GridScore::Refused(2);
+        return Err(Refusal::CaptureWrong);
     }
     if n > 1024 {
-        return GridScore::Refused(3);
+        return Err(Refusal::AreaShort);
     }
     fit::grid_score(
         &capture[..bytes],
@@ -154,10 +141,8 @@ fn print_float(console: &mut Console, x: f64) {
 }
 
 fn print_geometry(console: &mut Console, fit: GeometryFit) {
-    let h = fit.h;
-    let m = h.m;
-    for i in 0..9 {
-        print_float(console, m[i]);
+    for x in fit.h.m {
+        print_float(console, x);
     }
     let lens = fit.radial;
     print_float(console, lens.k);
@@ -166,25 +151,28 @@ fn print_geometry(console: &mut Console, fit: GeometryFit) {
     print_float(console, lens.norm);
 }
 
-fn print_fitted(console: &mut Console, r: Fitted) {
-    let verdict = r.verdict;
-    match verdict {
-        Verdict::Accepted => {
+fn print_refusal(console: &mut Console, refusal: Refusal) {
+    print_word(console, refusal.number() as u64);
+}
+
+fn print_fitted(console: &mut Console, answer: Fitted) {
+    match answer.verdict {
+        Ok(()) => {
             print_word(console, 0);
-            print_geometry(console, r.fit);
+            print_geometry(console, answer.fit);
         }
-        Verdict::Refused(n) => print_word(console, n as u64),
+        Err(refusal) => print_refusal(console, refusal),
     }
 }
 
 // The original has one float: outside and too few are its −∞.
-fn print_score(console: &mut Console, r: GridScore) {
-    match r {
-        GridScore::Is(g) => {
+fn print_score(console: &mut Console, answer: Result<Grade, Refusal>) {
+    match answer {
+        Ok(grade) => {
             print_word(console, 0);
-            print_grade(console, g);
+            print_grade(console, grade);
         }
-        GridScore::Refused(n) => print_word(console, n as u64),
+        Err(refusal) => print_refusal(console, refusal),
     }
 }
 
@@ -195,12 +183,12 @@ fn print_grade(console: &mut Console, g: Grade) {
             print_word(console, 0);
         }
         Grade::Outside(cell) => {
-            print_float(console, -1.0 / 0.0);
+            print_float(console, f64::NEG_INFINITY);
             print_word(console, 1);
             print_word(console, cell as u64);
         }
         Grade::TooFew => {
-            print_float(console, -1.0 / 0.0);
+            print_float(console, f64::NEG_INFINITY);
             print_word(console, 2);
         }
     }

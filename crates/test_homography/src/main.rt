@@ -5,8 +5,8 @@
 ghost use Rattle.std.specs.Prelude.{◌<◌};
 
 use console::Console;
-use frame::{Point, Quad, Verdict};
-use homography::{Homography, Solved};
+use frame::{Point, Quad};
+use homography::{Homography, Mat3, Solved};
 use std::io;
 
 // A record at a time, to the end of stdin.
@@ -44,7 +44,7 @@ fn point(b: &[u8], i: usize) -> Point
 {
     let x = float_at(b, i);
     let y = float_at(b, i + 1);
-    Point { x: x, y: y }
+    Point { x, y }
 }
 
 fn quad(b: &[u8], i: usize) -> Quad
@@ -54,15 +54,10 @@ fn quad(b: &[u8], i: usize) -> Quad
     let tr = point(b, i + 2);
     let br = point(b, i + 4);
     let bl = point(b, i + 6);
-    Quad {
-        tl: tl,
-        tr: tr,
-        br: br,
-        bl: bl,
-    }
+    Quad { tl, tr, br, bl }
 }
 
-fn matrix(b: &[u8], i: usize) -> [f64; 9]
+fn matrix(b: &[u8], i: usize) -> Mat3
     requires { i < 20 }
 {
     let mut m = [0.0; 9];
@@ -87,22 +82,19 @@ fn print_point(console: &mut Console, p: Point) {
     print_float(console, p.y);
 }
 
-fn print_matrix(console: &mut Console, m: [f64; 9]) {
-    for j in 0..9 {
-        print_float(console, m[j]);
+fn print_matrix(console: &mut Console, m: Mat3) {
+    for x in m {
+        print_float(console, x);
     }
 }
 
 // The refusal's number, 0 where there is none, and the matrix.
 fn print_solved(console: &mut Console, s: Solved) {
-    let verdict = s.verdict;
-    match verdict {
-        Verdict::Accepted => print_word(console, 0),
-        Verdict::Refused(n) => print_word(console, n as u64),
+    match s.verdict {
+        Ok(()) => print_word(console, 0),
+        Err(refusal) => print_word(console, refusal.number() as u64),
     }
-    let h = s.h;
-    let m = h.m;
-    print_matrix(console, m);
+    print_matrix(console, s.h.m);
 }
 
 // Writes w as 16 hexadecimal digits, on a line.

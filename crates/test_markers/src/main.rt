@@ -3,45 +3,40 @@
 // what they answer. The expected output is the original's (host/vectors, markers).
 #![tactic(auto)]
 
-ghost use Rattle.std.specs.Prelude.{◌≡◌, ◌*◌, ◌<◌, ◌≤◌, length};
+ghost use Rattle.std.specs.Prelude.{◌*◌, ◌<◌, ◌≤◌, length};
 
 use console::Console;
-use frame::{FrameSpec, Framed, Number, Point, Quad, Rgb, Verdict};
-use markers::Centers;
+use frame::{FrameSpec, Point, Quad, Refusal, Rgb};
 use std::io;
-
-fn text(console: &mut Console, s: &[u8]) {
-    console.text(s);
-}
 
 fn number(console: &mut Console, n: usize) {
     console.decimal(n as u64);
 }
 
-fn refused(console: &mut Console, n: u32) {
-    text(console, b"refused ");
-    number(console, n as usize);
+fn refused(console: &mut Console, refusal: Refusal) {
+    console.text(b"refused ");
+    console.decimal(refusal.number() as u64);
 }
 
-fn print_number(console: &mut Console, n: Number) {
-    match n {
-        Number::Is(v) => number(console, v),
-        Number::Refused(k) => refused(console, k),
+fn print_number(console: &mut Console, answer: Result<usize, Refusal>) {
+    match answer {
+        Ok(n) => number(console, n),
+        Err(refusal) => refused(console, refusal),
     }
 }
 
-fn print_frame(console: &mut Console, f: Framed) {
-    match f {
-        Framed::Is(s) => {
-            number(console, s.width);
-            text(console, b" ");
-            number(console, s.height);
-            text(console, b" ");
-            number(console, s.cell);
-            text(console, b" ");
-            number(console, s.margin);
+fn print_frame(console: &mut Console, answer: Result<FrameSpec, Refusal>) {
+    match answer {
+        Ok(f) => {
+            number(console, f.width);
+            console.text(b" ");
+            number(console, f.height);
+            console.text(b" ");
+            number(console, f.cell);
+            console.text(b" ");
+            number(console, f.margin);
         }
-        Framed::Refused(k) => refused(console, k),
+        Err(refusal) => refused(console, refusal),
     }
 }
 
@@ -58,68 +53,65 @@ fn print_quad(console: &mut Console, q: Quad) {
 }
 
 fn print_rgb(console: &mut Console, c: Rgb) {
-    text(console, b" ");
+    console.text(b" ");
     number(console, c.r as usize);
-    text(console, b" ");
+    console.text(b" ");
     number(console, c.g as usize);
-    text(console, b" ");
+    console.text(b" ");
     number(console, c.b as usize);
 }
 
 fn constants(console: &mut Console) {
     number(console, FrameSpec::CALIB_ROWS);
-    text(console, b" ");
+    console.text(b" ");
     number(console, FrameSpec::HEADER_ROWS);
-    text(console, b" ");
+    console.text(b" ");
     number(console, markers::MARKER_MIN_PX);
-    text(console, b" ");
+    console.text(b" ");
     number(console, markers::MARKER_MAX_PX);
     print_rgb(console, frame::BLACK);
     print_rgb(console, frame::WHITE);
-    text(console, b"\n");
+    console.text(b"\n");
     print_word(console, vectors::bits(markers::MARKER_UNITS));
 }
 
 fn sizes(console: &mut Console, cell: usize) {
     print_number(console, markers::marker_size(cell));
-    text(console, b" ");
+    console.text(b" ");
     print_number(console, markers::quiet_zone(cell));
-    text(console, b" ");
+    console.text(b" ");
     print_number(console, markers::margin_for(cell));
-    text(console, b"\n");
+    console.text(b"\n");
 }
 
 fn made(console: &mut Console, width: usize, height: usize, cell: usize) {
     print_frame(console, FrameSpec::new(width, height, cell));
-    text(console, b" ");
+    console.text(b" ");
     print_frame(console, markers::frame_spec(width, height, cell));
-    text(console, b"\n");
+    console.text(b"\n");
 }
 
 fn grid(console: &mut Console, f: FrameSpec) {
     print_number(console, f.cols());
-    text(console, b" ");
+    console.text(b" ");
     print_number(console, f.rows());
-    text(console, b"\n");
+    console.text(b"\n");
 }
 
 fn centers(console: &mut Console, f: FrameSpec) {
-    let answer = markers::marker_centers(f);
-    match answer {
-        Centers::Are(q) => print_quad(console, q),
-        Centers::Refused(k) => {
-            refused(console, k);
-            text(console, b"\n");
+    match markers::marker_centers(f) {
+        Ok(q) => print_quad(console, q),
+        Err(refusal) => {
+            refused(console, refusal);
+            console.text(b"\n");
         }
     }
 }
 
 // A picture with no black and no white.
 fn pattern(picture: &mut [u8]) {
-    let mut i: usize = 0;
-    while i < picture.len() {
-        picture[i] = ((i % 251 * 31 + 7) % 251) as u8;
-        i += 1;
+    for (i, byte) in picture.iter_mut().enumerate() {
+        *byte = ((i % 251 * 31 + 7) % 251) as u8;
     }
 }
 
@@ -132,62 +124,31 @@ fn next(s: u64, b: u8) -> u64
 
 fn checksum(picture: &[u8]) -> u64 {
     let mut s: u64 = 0;
-    let mut i: usize = 0;
-    while i < picture.len() {
-        s = next(s, picture[i]);
-        i += 1;
+    for byte in picture {
+        s = next(s, *byte);
     }
     s
 }
 
 // # for a black pixel, . for a white one, + for any other
-fn print_pixel(console: &mut Console, picture: &[u8], at: usize)
-    requires { at < length picture.now }
-{
-    if picture.len() - at < 3 {
-        return;
-    }
-    let r = picture[at];
-    let g = picture[at + 1];
-    let b = picture[at + 2];
-    if (r == 0) & (g == 0) & (b == 0) {
-        text(console, b"#");
-        return;
-    }
-    if (r == 255) & (g == 255) & (b == 255) {
-        text(console, b".");
-        return;
-    }
-    text(console, b"+");
-}
-
 fn print_row(console: &mut Console, row: &[u8]) {
-    let mut at: usize = 0;
-    while at < row.len() {
-        print_pixel(console, row, at);
-        if row.len() - at < 3 {
-            return;
+    for pixel in row.chunks_exact(3) {
+        match pixel {
+            [0, 0, 0] => console.text(b"#"),
+            [255, 255, 255] => console.text(b"."),
+            _ => console.text(b"+"),
         }
-        at += 3;
     }
-    text(console, b"\n");
+    console.text(b"\n");
 }
 
 // The picture's row y, where it has one.
 fn print_row_of(console: &mut Console, picture: &[u8], w: usize, h: usize, y: usize) {
-    if 4096 < w {
+    if 4096 < w || 4096 < y || h <= y {
         return;
     }
-    if 4096 < y {
-        return;
-    }
-    if h <= y {
-        return;
-    }
-    let from = 3 * w * y;
-    let to = 3 * w * (y + 1);
-    if to <= picture.len() {
-        print_row(console, &picture[from..to]);
+    if let Some(row) = picture.get(3 * w * y..3 * w * (y + 1)) {
+        print_row(console, row);
     }
 }
 
@@ -195,13 +156,13 @@ fn stamp(console: &mut Console, picture: &mut [u8], w: usize, h: usize, f: Frame
     pattern(picture);
     let answer = markers::stamp_fiducials(picture, w, h, f);
     match answer {
-        Verdict::Accepted => text(console, b"accepted"),
-        Verdict::Refused(k) => refused(console, k),
+        Ok(()) => console.text(b"accepted"),
+        Err(refusal) => refused(console, refusal),
     }
-    text(console, b" ");
+    console.text(b" ");
     console.decimal(checksum(picture));
-    text(console, b"\n");
-    if let Verdict::Accepted = answer {
+    console.text(b"\n");
+    if answer.is_ok() {
         print_row_of(console, picture, w, h, y);
     }
 }
@@ -222,33 +183,28 @@ fn run(console: &mut Console, input: &[u8], entry: usize, picture: &mut [u8])
         cell: field(input, entry, 6),
         margin: field(input, entry, 7),
     };
-    if kind == 0 {
-        sizes(console, f.cell);
-    }
-    if kind == 1 {
-        made(console, f.width, f.height, f.cell);
-    }
-    if kind == 2 {
-        grid(console, f);
-    }
-    if kind == 3 {
-        centers(console, f);
-    }
-    if kind == 5 {
-        constants(console);
-    }
-    if kind == 4 {
-        let len = field(input, entry, 3);
-        if len <= picture.len() {
-            stamp(
-                console,
-                &mut picture[..len],
-                field(input, entry, 1),
-                field(input, entry, 2),
-                f,
-                field(input, entry, 8),
-            );
+    match kind {
+        0 => sizes(console, f.cell),
+        1 => made(console, f.width, f.height, f.cell),
+        2 => grid(console, f),
+        3 => centers(console, f),
+        4 => {
+            let w = field(input, entry, 1);
+            let h = field(input, entry, 2);
+            let len = field(input, entry, 3);
+            if len <= picture.len() {
+                stamp(
+                    console,
+                    &mut picture[..len],
+                    w,
+                    h,
+                    f,
+                    field(input, entry, 8),
+                );
+            }
         }
+        5 => constants(console),
+        _ => {}
     }
 }
 

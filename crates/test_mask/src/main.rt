@@ -39,27 +39,30 @@ fn planes(console: &mut Console, capture: &[u8])
 }
 
 fn print_luma(console: &mut Console, luma: &[f32]) {
-    for i in 0..luma.len() {
-        console.hex(vectors::bits32(luma[i]) as u64, 8);
+    for x in luma {
+        console.hex(vectors::bits32(*x) as u64, 8);
         console.text(b"\n");
     }
 }
 
 fn print_integral(console: &mut Console, integral: &[f64]) {
-    for i in 0..integral.len() {
-        print_word(console, vectors::bits(integral[i]));
+    for x in integral {
+        print_word(console, vectors::bits(*x));
     }
 }
 
 // A line for each row, and one for what is left.
 fn print_mask(console: &mut Console, mask: &[u8]) {
-    for i in 0..mask.len() {
-        print_entry(console, mask[i]);
-        if i % 40 == 39 {
-            console.text(b"\n");
-        }
+    for row in mask.chunks(40) {
+        print_row(console, row);
+        console.text(b"\n");
     }
-    console.text(b"\n");
+}
+
+fn print_row(console: &mut Console, row: &[u8]) {
+    for entry in row {
+        print_entry(console, *entry);
+    }
 }
 
 fn print_entry(console: &mut Console, entry: u8) {

@@ -5,12 +5,29 @@
 
 mod print; // print.rt: answers and the target on lines
 
-use base::min;
 use console::Console;
-use frame::Number;
 use merge::internal::too_long;
 use merge::merge_books;
 use std::io;
+
+// What a call does, by its first word: the joined length's limit is asked, or books are joined, the
+// first with itself or with the second.
+#[derive(Clone, Copy)]
+enum Kind {
+    Limit,
+    Itself,
+    Both,
+}
+
+impl From<u64> for Kind {
+    fn from(word: u64) -> Kind {
+        match word {
+            1 => Kind::Limit,
+            2 => Kind::Itself,
+            _ => Kind::Both,
+        }
+    }
+}
 
 // A call at a time, to the end of stdin.
 fn main(rt: HostRuntime) -> io::Result<()> {
@@ -38,46 +55,41 @@ fn call(
     second: &mut [u8],
     target: &mut [u8],
 ) {
-    let kind = vectors::word(head, 0);
-    if kind == 1 {
-        print::labelled(console, b"long ", too_long(size_at(head, 1)) as u64);
-        return;
+    let n = size_at(head, 1).min(first.len());
+    let m = size_at(head, 2).min(second.len());
+    let room = size_at(head, 3).min(target.len());
+    let first = &mut first[..n];
+    let second = &mut second[..m];
+    let target = &mut target[..room];
+    match Kind::from(vectors::word(head, 0)) {
+        Kind::Limit => print::labelled(console, b"long ", too_long(size_at(head, 1)) as u64),
+        Kind::Itself => {
+            load(console, first, second, target);
+            print::answer(console, merge_books(first, first, target));
+            print::target(console, target);
+        }
+        Kind::Both => {
+            load(console, first, second, target);
+            print::answer(console, merge_books(first, second, target));
+            print::target(console, target);
+        }
     }
-    let n = min(size_at(head, 1), first.len());
-    let m = min(size_at(head, 2), second.len());
-    let room = min(size_at(head, 3), target.len());
-    join(
-        console,
-        kind,
-        &mut first[..n],
-        &mut second[..m],
-        &mut target[..room],
-    );
 }
 
 fn size_at(head: &[u8], i: usize) -> usize {
     vectors::word(head, i) as usize
 }
 
-fn join(console: &mut Console, kind: u64, first: &mut [u8], second: &mut [u8], target: &mut [u8]) {
+// Both books come from stdin, whether the second is joined or not.
+fn load(console: &mut Console, first: &mut [u8], second: &mut [u8], target: &mut [u8]) {
     console.read_full(first);
     console.read_full(second);
     fill(target);
-    print::number(console, answer(kind, first, second, target));
-    print::target(console, target);
-}
-
-// The answer to both books, or to the first alone, lent twice.
-fn answer(kind: u64, first: &[u8], second: &[u8], target: &mut [u8]) -> Number {
-    if kind == 2 {
-        return merge_books(first, first, target);
-    }
-    merge_books(first, second, target)
 }
 
 // Bytes that show which of them the call leaves alone.
 fn fill(target: &mut [u8]) {
-    for k in 0..target.len() {
-        target[k] = ((7 * (k % 256) + 165) % 256) as u8;
+    for (k, byte) in target.iter_mut().enumerate() {
+        *byte = ((7 * (k % 256) + 165) % 256) as u8;
     }
 }

@@ -1,5 +1,5 @@
 -- What list and page hold before a call (host/vectors/page.py). Assumes nothing.
-use Rattle.std.specs.Prelude.{ℕ, ◌/◌, ◌%◌, max, List, Float, length}
+use Rattle.std.specs.Prelude.{ℕ, ◌/◌, ◌%◌, max, List, Float, length, replicate}
 use Rattle.std.specs.Float.{binary64}
 use Rattle.std.specs.Float.Ieee.{of_bits}
 use Rattle.base.specs.Loops.{filled}
@@ -14,4 +14,4 @@ over_and_over words list = filled (float_for words) (length list) list
 
 -- "every byte of the page is a tilde"
 abbrev pub tildes : List ℕ → List ℕ
-tildes page = filled (λ k. 126) (length page) page
+tildes page = replicate (length page) 126

@@ -8,7 +8,6 @@ mod print; // print.rt: an answer's lines
 ghost use Rattle.std.specs.Prelude.{◌≡◌};
 ghost use Rattle.test_page.specs.Calls.{over_and_over, tildes};
 
-use base::{max, min};
 use console::Console;
 use page::candidate_page;
 use std::io;
@@ -31,8 +30,8 @@ fn main(rt: HostRuntime) -> io::Result<()> {
 
 // The call that five words describe, on as much of both areas as it is lent.
 fn call(console: &mut Console, number: usize, head: &[u8], list: &mut [f64], area: &mut [u8]) {
-    let listed = min(size_at(head, 1), list.len());
-    let room = min(size_at(head, 2), area.len());
+    let listed = size_at(head, 1).min(list.len());
+    let room = size_at(head, 2).min(area.len());
     answer(
         console,
         number,
@@ -45,18 +44,18 @@ fn call(console: &mut Console, number: usize, head: &[u8], list: &mut [f64], are
 // The list has the first floats behind the words over and over, but the others at its end.
 fn answer(console: &mut Console, number: usize, head: &[u8], list: &mut [f64], area: &mut [u8]) {
     load(console, size_at(head, 3), list);
-    let last = min(size_at(head, 4), list.len());
+    let last = size_at(head, 4).min(list.len());
     let start = list.len() - last;
     load(console, last, &mut list[start..]);
     clear(area);
-    let verdict = candidate_page(list, size_at(head, 0), area);
-    print::answer(console, number, verdict, area);
+    let answer = candidate_page(list, size_at(head, 0), area);
+    print::answer(console, number, answer, area);
 }
 
 // Reads n floats, and fills the list with them.
 fn load(console: &mut Console, n: usize, list: &mut [f64]) {
     let mut words = [0u8; 16384];
-    let end = 8 * min(n, 2048);
+    let end = 8 * n.min(2048);
     read(console, &mut words[..end], list);
 }
 
@@ -73,9 +72,9 @@ fn size_at(b: &[u8], i: usize) -> usize {
 fn fill(list: &mut [f64], words: &[u8])
     ensures { list.new ≡ over_and_over words.now list.old }
 {
-    let n = max(words.len() / 8, 1);
-    for k in 0..list.len() {
-        list[k] = vectors::double(vectors::word(words, k % n));
+    let n = (words.len() / 8).max(1);
+    for (k, x) in list.iter_mut().enumerate() {
+        *x = vectors::double(vectors::word(words, k % n));
     }
 }
 
@@ -83,7 +82,5 @@ fn fill(list: &mut [f64], words: &[u8])
 fn clear(area: &mut [u8])
     ensures { area.new ≡ tildes area.old }
 {
-    for k in 0..area.len() {
-        area[k] = b'~';
-    }
+    area.fill(b'~');
 }

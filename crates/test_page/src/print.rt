@@ -2,14 +2,19 @@
 ghost use Rattle.std.specs.Prelude.{◌≤◌, length};
 
 use console::Console;
-use frame::Verdict;
+use frame::Refusal;
 
 // The call's number, the refusal's, and the page.
-pub(crate) fn answer(console: &mut Console, number: usize, verdict: Verdict, page: &[u8]) {
+pub(crate) fn answer(
+    console: &mut Console,
+    number: usize,
+    answer: Result<(), Refusal>,
+    page: &[u8],
+) {
     console.text(b"call ");
     console.decimal(number as u64);
     console.text(b": ");
-    console.decimal(refusal(verdict));
+    console.decimal(number_of(answer));
     console.text(b"\n");
     if page.len() < 5000 {
         console.text(page);
@@ -20,10 +25,10 @@ pub(crate) fn answer(console: &mut Console, number: usize, verdict: Verdict, pag
 }
 
 // The refusal's number, or 0.
-fn refusal(v: Verdict) -> u64 {
-    match v {
-        Verdict::Accepted => 0,
-        Verdict::Refused(n) => n as u64,
+fn number_of(answer: Result<(), Refusal>) -> u64 {
+    match answer {
+        Ok(()) => 0,
+        Err(refusal) => refusal.number() as u64,
     }
 }
 

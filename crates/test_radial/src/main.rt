@@ -3,8 +3,8 @@
 #![tactic(auto)]
 
 use console::Console;
-use frame::Point;
-use radial::{Lens, Radial};
+use frame::{Point, Refusal};
+use radial::Radial;
 use std::io;
 
 // A record at a time, to the end of stdin.
@@ -35,7 +35,7 @@ fn float_at(b: &[u8], i: usize) -> f64 {
     vectors::double(vectors::word(b, i))
 }
 
-fn lens_at(b: &[u8]) -> Lens {
+fn lens_at(b: &[u8]) -> Result<Radial, Refusal> {
     let w = vectors::word(b, 1) as usize;
     let h = vectors::word(b, 2) as usize;
     Radial::new(w, h, float_at(b, 3))
@@ -46,18 +46,13 @@ fn radial_at(b: &[u8]) -> Radial {
     let cx = float_at(b, 2);
     let cy = float_at(b, 3);
     let norm = float_at(b, 4);
-    Radial {
-        k: k,
-        cx: cx,
-        cy: cy,
-        norm: norm,
-    }
+    Radial { k, cx, cy, norm }
 }
 
 fn point_at(b: &[u8]) -> Point {
     let x = float_at(b, 5);
     let y = float_at(b, 6);
-    Point { x: x, y: y }
+    Point { x, y }
 }
 
 // ---- answers
@@ -72,16 +67,16 @@ fn print_point(console: &mut Console, p: Point) {
 }
 
 // The refusal's number alone, or 0 and the lens.
-fn print_lens(console: &mut Console, l: Lens) {
-    match l {
-        Lens::Is(r) => {
+fn print_lens(console: &mut Console, answer: Result<Radial, Refusal>) {
+    match answer {
+        Ok(lens) => {
             print_word(console, 0);
-            print_float(console, r.k);
-            print_float(console, r.cx);
-            print_float(console, r.cy);
-            print_float(console, r.norm);
+            print_float(console, lens.k);
+            print_float(console, lens.cx);
+            print_float(console, lens.cy);
+            print_float(console, lens.norm);
         }
-        Lens::Refused(n) => print_word(console, n as u64),
+        Err(refusal) => print_word(console, refusal.number() as u64),
     }
 }
 

@@ -5,19 +5,18 @@
 // forms).
 #![tactic(auto)]
 
-ghost use Rattle.std.specs.Prelude.{◌≡◌, ◌+◌, ◌*◌, ◌≤◌, ◌<◌, length, replicate, set};
+ghost use Rattle.std.specs.Prelude.{◌≡◌, ◌*◌, ◌≤◌, ◌<◌, length, replicate};
 ghost use Rattle.base.specs.Loops.{filled};
 ghost use Rattle.blobs.specs.Patches.{record_length, patch_at};
 ghost use Rattle.candidates.specs.Ring.{candidate_at};
-ghost use Rattle.records.specs.Records.{no_patch, no_candidate, patch_in, candidate_in};
+ghost use Rattle.records.specs.Records.{no_patch, no_candidate};
 
-use base::min;
 use blobs::Blob;
 use candidates::Candidate;
 use console::Console;
-use frame::{FrameSpec, Point, Rgb, Verdict};
+use frame::{FrameSpec, Point, Refusal, Rgb};
+use records::internal::{fetch, store_candidate, store_patch};
 use std::io;
-use view::Pixel;
 use view::internal::pixel_at;
 
 fn main(rt: HostRuntime) -> io::Result<()> {
@@ -38,11 +37,9 @@ fn label(console: &mut Console, mask: &[u8]) {
     let mut seen = [0u8; 9];
     let mut waiting = [0u32; 9];
     let mut patches = [0u64; 40];
-    let l = blobs::label_blobs(mask, 3, 3, &mut seen, &mut waiting, &mut patches);
-    let verdict = l.verdict;
-    match verdict {
-        Verdict::Accepted => print_patches(console, &patches, l.patches),
-        Verdict::Refused(n) => print_refusal(console, n),
+    match blobs::label_blobs(mask, 3, 3, &mut seen, &mut waiting, &mut patches) {
+        Ok(labelled) => print_patches(console, &patches, labelled.patches),
+        Err(refusal) => print_refusal(console, refusal),
     }
 }
 
@@ -71,7 +68,7 @@ fn find(console: &mut Console, capture: &[u8]) {
     let mut patches = [0u64; 16384];
     let mut candidates = [0.0; 512];
     let mut blob_index = [0u32; 128];
-    let l = candidates::fiducial_candidates(
+    let found = candidates::fiducial_candidates(
         capture,
         64,
         64,
@@ -85,56 +82,17 @@ fn find(console: &mut Console, capture: &[u8]) {
         &mut candidates,
         &mut blob_index,
     );
-    let verdict = l.verdict;
-    match verdict {
-        Verdict::Accepted => print_candidates(console, &candidates, &blob_index, l.candidates),
-        Verdict::Refused(n) => print_refusal(console, n),
+    match found {
+        Ok(counts) => print_candidates(console, &candidates, &blob_index, counts.candidates),
+        Err(refusal) => print_refusal(console, refusal),
     }
 }
 
-// ---- the slices of records: arrays by value, lent to the crate's store and fetch by these four
-// functions.
+// ---- the slices of records
 
-fn stored_patch(list: [Blob; 5], patches: &[u64], j: usize) -> [Blob; 5]
-    requires { (j < 5) × (record_length * (j + 1) ≤ length patches.now) }
-    ensures { result ≡ set list j (patch_at patches.now j) }
-{
-    let mut r = list;
-    records::internal::store_patch(&mut r, patches, j);
-    r
-}
-
-fn fetched_patch(list: [Blob; 5], j: usize) -> Blob
-    requires { j < 5 }
-    ensures { result ≡ patch_in list j }
-{
-    records::internal::fetch_patch(&list, j)
-}
-
-fn stored_candidate(
-    list: [Candidate; 5],
-    candidates: &[f64],
-    blob_index: &[u32],
-    i: usize,
-) -> [Candidate; 5]
-    requires { (i < 5) × (4 * i + 3 < length candidates.now) × (i < length blob_index.now) }
-    ensures { result ≡ set list i (candidate_at candidates.now blob_index.now i) }
-{
-    let mut r = list;
-    records::internal::store_candidate(&mut r, candidates, blob_index, i);
-    r
-}
-
-fn fetched_candidate(list: [Candidate; 5], i: usize) -> Candidate
-    requires { i < 5 }
-    ensures { result ≡ candidate_in list i }
-{
-    records::internal::fetch_candidate(&list, i)
-}
-
-// The first n records of the flat list, each in its place.
+// The first records of the flat list, each in its place.
 fn keep_patches(patches: &[u64], n: usize) -> [Blob; 5]
-    requires { (n ≤ 5) × (40 ≤ length patches.now) }
+    requires { (n ≤ 5) × (record_length * 5 ≤ length patches.now) }
     ensures { result ≡ filled (patch_at patches.now) n (replicate 5 no_patch) }
 {
     let none = Blob {
@@ -149,8 +107,7 @@ fn keep_patches(patches: &[u64], n: usize) -> [Blob; 5]
     };
     let mut list = [none; 5];
     for j in 0..n {
-        let next = stored_patch(list, patches, j);
-        list = next;
+        store_patch(&mut list, patches, j);
     }
     list
 }
@@ -169,52 +126,43 @@ fn keep_candidates(candidates: &[f64], blob_index: &[u32], n: usize) -> [Candida
     };
     let mut list = [none; 5];
     for i in 0..n {
-        let next = stored_candidate(list, candidates, blob_index, i);
-        list = next;
+        store_candidate(&mut list, candidates, blob_index, i);
     }
     list
 }
 
 // ---- printing
 
-fn text(console: &mut Console, s: &[u8]) {
-    console.text(s);
-}
-
-fn number(console: &mut Console, n: u64) {
-    console.decimal(n);
-}
-
 fn spaced(console: &mut Console, n: u64) {
-    text(console, b" ");
-    number(console, n);
+    console.text(b" ");
+    console.decimal(n);
 }
 
 fn float(console: &mut Console, x: f64) {
     console.hex(vectors::bits(x), 16);
-    text(console, b" ");
+    console.text(b" ");
 }
 
 fn print_patches(console: &mut Console, patches: &[u64], n: usize)
-    requires { 40 ≤ length patches.now }
+    requires { record_length * 5 ≤ length patches.now }
 {
-    text(console, b"3 3 ");
-    number(console, n as u64);
-    text(console, b"\n");
-    fetch_patches(console, patches, min(n, 5));
+    console.text(b"3 3 ");
+    console.decimal(n as u64);
+    console.text(b"\n");
+    fetch_patches(console, patches, n.min(5));
 }
 
 fn fetch_patches(console: &mut Console, patches: &[u64], n: usize)
-    requires { (n ≤ 5) × (40 ≤ length patches.now) }
+    requires { (n ≤ 5) × (record_length * 5 ≤ length patches.now) }
 {
     let list = keep_patches(patches, n);
     for j in 0..n {
-        print_patch(console, fetched_patch(list, j));
+        print_patch(console, fetch(&list, j));
     }
 }
 
 fn print_patch(console: &mut Console, b: Blob) {
-    number(console, b.area);
+    console.decimal(b.area);
     spaced(console, b.sx);
     spaced(console, b.sy);
     spaced(console, b.x0);
@@ -222,16 +170,16 @@ fn print_patch(console: &mut Console, b: Blob) {
     spaced(console, b.x1);
     spaced(console, b.y1);
     spaced(console, b.outline);
-    text(console, b"\n");
+    console.text(b"\n");
 }
 
 fn print_candidates(console: &mut Console, candidates: &[f64], blob_index: &[u32], n: usize)
     requires { (20 ≤ length candidates.now) × (5 ≤ length blob_index.now) }
 {
-    text(console, b"64 64 ");
-    number(console, n as u64);
-    text(console, b"\n");
-    fetch_candidates(console, candidates, blob_index, min(n, 5));
+    console.text(b"64 64 ");
+    console.decimal(n as u64);
+    console.text(b"\n");
+    fetch_candidates(console, candidates, blob_index, n.min(5));
 }
 
 fn fetch_candidates(console: &mut Console, candidates: &[f64], blob_index: &[u32], n: usize)
@@ -239,37 +187,36 @@ fn fetch_candidates(console: &mut Console, candidates: &[f64], blob_index: &[u32
 {
     let list = keep_candidates(candidates, blob_index, n);
     for i in 0..n {
-        print_candidate(console, fetched_candidate(list, i));
+        print_candidate(console, fetch(&list, i));
     }
 }
 
 fn print_candidate(console: &mut Console, c: Candidate) {
-    let center = c.center;
-    float(console, center.x);
-    float(console, center.y);
+    float(console, c.center.x);
+    float(console, c.center.y);
     float(console, c.score);
     float(console, c.size);
-    number(console, c.blob_index as u64);
-    text(console, b"\n");
+    console.decimal(c.blob_index as u64);
+    console.text(b"\n");
 }
 
 fn print_colour(console: &mut Console, c: Rgb) {
-    number(console, c.r as u64);
+    console.decimal(c.r as u64);
     spaced(console, c.g as u64);
     spaced(console, c.b as u64);
-    text(console, b"\n");
+    console.text(b"\n");
 }
 
-fn print_refusal(console: &mut Console, n: u32) {
-    text(console, b"refused ");
-    number(console, n as u64);
-    text(console, b"\n");
+fn print_refusal(console: &mut Console, refusal: Refusal) {
+    console.text(b"refused ");
+    console.decimal(refusal.number() as u64);
+    console.text(b"\n");
 }
 
-fn print_pixel(console: &mut Console, p: Pixel) {
-    match p {
-        Pixel::Is(c) => print_colour(console, c),
-        Pixel::Outside => text(console, b"outside\n"),
-        Pixel::Refused(n) => print_refusal(console, n),
+fn print_pixel(console: &mut Console, pixel: Result<Option<Rgb>, Refusal>) {
+    match pixel {
+        Ok(Some(colour)) => print_colour(console, colour),
+        Ok(None) => console.text(b"outside\n"),
+        Err(refusal) => print_refusal(console, refusal),
     }
 }

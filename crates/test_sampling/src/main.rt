@@ -5,13 +5,14 @@
 #![tactic(auto)]
 
 use console::Console;
-use sampling::Colour;
+use frame::Refusal;
+use sampling::Sample;
 use std::io;
 
-// The picture is 5 by 4, in 60 bytes; the places follow from this word on,
-const FIRST: usize = 8;
+// The picture is 5 by 4, in 60 bytes; the places follow from this byte on,
+const PLACES: usize = 64;
 
-// and the pixels from this byte on.
+// and the pixels from this one on.
 const PIXELS: usize = 6800;
 
 fn main(rt: HostRuntime) -> io::Result<()> {
@@ -24,9 +25,10 @@ fn main(rt: HostRuntime) -> io::Result<()> {
 
 fn run(console: &mut Console, b: &[u8]) {
     if PIXELS <= b.len() {
+        let picture = &b[..60];
         examples(console);
-        refusals(console, &b[..60]);
-        places(console, &b[..60], &b[..PIXELS]);
+        refusals(console, picture);
+        places(console, picture, &b[PLACES..PIXELS]);
         lumas(console, &b[PIXELS..]);
     }
 }
@@ -45,38 +47,36 @@ fn refusals(console: &mut Console, picture: &[u8]) {
     print(console, sampling::bilinear(picture, 5, 5, 1.0, 1.0));
 }
 
+// A place is two words, x and y.
 fn places(console: &mut Console, picture: &[u8], b: &[u8]) {
-    let end = b.len() / 8;
-    let mut i: usize = FIRST;
-    while i + 1 < end {
-        let x = vectors::double(vectors::word(b, i));
-        let y = vectors::double(vectors::word(b, i + 1));
+    for place in b.chunks_exact(16) {
+        let x = vectors::double(vectors::word(place, 0));
+        let y = vectors::double(vectors::word(place, 1));
         print(console, sampling::bilinear(picture, 5, 4, x, y));
-        i += 2;
     }
 }
 
 fn lumas(console: &mut Console, b: &[u8]) {
-    for i in 0..b.len() / 3 {
-        let y = sampling::luma(b[3 * i], b[3 * i + 1], b[3 * i + 2]);
+    for pixel in b.chunks_exact(3) {
+        let y = sampling::luma(pixel[0], pixel[1], pixel[2]);
         console.hex(vectors::bits32(y) as u64, 8);
         console.text(b"\n");
     }
 }
 
-fn print(console: &mut Console, answer: Colour) {
+fn print(console: &mut Console, answer: Result<Sample, Refusal>) {
     match answer {
-        Colour::Is(s) => {
-            let c = s.colour;
-            console.hex(c.r as u64, 2);
-            console.hex(c.g as u64, 2);
-            console.hex(c.b as u64, 2);
+        Ok(sample) => {
+            let colour = sample.colour;
+            console.hex(colour.r as u64, 2);
+            console.hex(colour.g as u64, 2);
+            console.hex(colour.b as u64, 2);
             console.text(b" ");
-            console.decimal(s.inside as u64);
+            console.decimal(sample.inside as u64);
         }
-        Colour::Refused(n) => {
+        Err(refusal) => {
             console.text(b"refused ");
-            console.decimal(n as u64);
+            console.decimal(refusal.number() as u64);
         }
     }
     console.text(b"\n");

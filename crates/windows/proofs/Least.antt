@@ -1,32 +1,25 @@
--- The nearest and its distance in numbers. Assumes nothing.
-use Prim.Native.Nat.{ℕ, ◌<◌}
-use mathlib.Core.Path.{◌≡◌, refl, sym}
+-- The nearest with its distance, with one patch more. Assumes nothing.
+use Prim.Native.Nat.{ℕ}
+use mathlib.Core.Path.{◌≡◌, refl}
 use mathlib.Core.Bool.{Bool, true, false, cond}
 use lib.Dec.{ltb}
-use borrow.Author.Tests.{lt-ltb}
-use Rattle.base.proofs.Pick.{pick_yes}
+use Rattle.std.specs.Prelude.{Option, Some, None}
+use Rattle.std.specs.Option.{option_map}
 use Rattle.windows.specs.Rectangles.{distance}
-use Rattle.windows.specs.Windows.{nearest_met, no_patch, patch_number}
-use Rattle.windows.specs.Steps.{farthest}
+use Rattle.windows.specs.Windows.{nearest_met}
+use Rattle.windows.specs.Steps.{near, nearer}
 use Rattle.windows.specs.declared.Rectangle.{Rectangle}
-use Rattle.windows.specs.declared.Patch.{Patch}
-use Rattle.windows.specs.declared.Patch.TheVariants.{At, Nothing}
+use Rattle.windows.specs.declared.tally.Near.{Near}
 
 module _ (t : ℕ → Rectangle) (r : Rectangle) where
-  -- the distance of the nearest
-  unfoldable pub least_number : Patch → ℕ
-  least_number Nothing = farthest
-  least_number (At j) = distance r (t j)
+  abbrev pub near_of : ℕ → Near
+  near_of j = near j (distance r (t j))
 
-  pub near_number : (n : ℕ) (p : Patch) → distance r (t n) < farthest
-      → (cond (ltb (distance r (t n)) (least_number p)) n (patch_number p) ≡ patch_number (nearest_met t r n p))
-      × (cond (ltb (distance r (t n)) (least_number p)) (distance r (t n)) (least_number p) ≡ least_number (nearest_met t r n p))
-  unfolding nearest_met patch_number least_number
-  near_number n Nothing h =
-      let e = lt-ltb (distance r (t n)) farthest h in
-      (sym (pick_yes _ n no_patch e), sym (pick_yes _ (distance r (t n)) farthest e))
-  near_number n (At i) h = by_test (ltb (distance r (t n)) (distance r (t i)))
+  pub nearest_step : (n : ℕ) (p : Option ℕ) → nearer (option_map near_of p) (near_of n) ≡ option_map near_of (nearest_met t r n p)
+  unfolding nearer nearest_met
+  nearest_step n None = refl
+  nearest_step n (Some i) = by_test (ltb (distance r (t n)) (distance r (t i)))
     where
-      by_test : (b : Bool) → (cond b n i ≡ patch_number (cond b (At n) (At i))) × (cond b (distance r (t n)) (distance r (t i)) ≡ least_number (cond b (At n) (At i)))
-      by_test true = (refl, refl)
-      by_test false = (refl, refl)
+      by_test : (b : Bool) → cond b (Some (near_of n)) (Some (near_of i)) ≡ option_map near_of (cond b (Some n) (Some i))
+      by_test true = refl
+      by_test false = refl

@@ -12,7 +12,6 @@ use Rattle.base.proofs.Every.{every_one, one_every, every_fails}
 use Rattle.base.proofs.Tests.{either}
 use Rattle.frame.specs.Refusals.{Lowest, lowest_of}
 use Rattle.frame.specs.Refusals.Lowest.{accepted, refused}
-use Rattle.frame.proofs.Given.{accepted_is, accepted_zero}
 use Rattle.windows.specs.Rectangles.{rectangle_at, box_at, valid, every_rectangle, every_box}
 use Rattle.windows.specs.Windows.{WindowOf, window_of, no_window, window_numbers, window_at}
 use Rattle.windows.specs.Steps.{Fitting}
@@ -151,7 +150,7 @@ module _ (windows : List ℕ) (i : ℕ) (h : 4 * i + 4 ≤ length windows) where
 
 pub alone : Alone
 alone patches n windows k answers answers' v w a i l mine mine' u m x =
-    let z = accepted_zero w.given a in
+    let z = sym w.given ∙ a in
     let g = held patches n windows k answers z in
     let f = g.fit in
     let r : 4 * i + 4 ≤ length windows = omega (arith, f.handed) in
@@ -161,7 +160,7 @@ alone patches n windows k answers answers' v w a i l mine mine' u m x =
     let fit : Fitting patches n (own windows i r) 1 (length mine) =
     record { held = omega arith; handed = omega (arith, own_long windows i r); listed = f.listed; few = omega arith; rectangles = fair } in
     let y = none_bad patches n (own windows i r) 1 mine fit g.boxes in (
-      x.given ∙ sym (accepted_is _ y),
+      x.given ∙ y,
       ap (take 3) (x.accepted y)
           ∙ answers_part patches n (own windows i r) 1 (drop 3 mine) 0 (omega arith)
           ∙ ap (λ q. window_numbers (window_of (box_at patches) n q)) (own_is windows i r)
@@ -172,7 +171,7 @@ alone patches n windows k answers answers' v w a i l mine mine' u m x =
 -- ---- an empty list
 pub empty_list : EmptyList
 empty_list patches windows k answers answers' v w a i l =
-    let z = accepted_zero w.given a in
+    let z = sym w.given ∙ a in
     let f = (held patches 0 windows k answers z).fit in
     window_one (box_at patches) 0 (rectangle_at windows i) (window_at answers' i) no_window (w.means z i l)
     (subst (WindowOf (box_at patches) 0 (rectangle_at windows i)) (window_none (box_at patches) (rectangle_at windows i))

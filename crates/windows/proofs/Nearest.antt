@@ -10,19 +10,18 @@ use Rattle.base.proofs.Pick.{cond_elim}
 use Rattle.windows.specs.Rectangles.{distance}
 use Rattle.windows.specs.Windows.{LeastOf, nearest_met}
 use Rattle.windows.specs.declared.Rectangle.{Rectangle}
-use Rattle.windows.specs.declared.Patch.{Patch}
-use Rattle.windows.specs.declared.Patch.TheVariants.{At, Nothing}
+use Rattle.std.specs.Prelude.{Option, Some, None}
 
-pub nearest_more : (t : ℕ → Rectangle) (r : Rectangle) (n : ℕ) (p : Patch)
+pub nearest_more : (t : ℕ → Rectangle) (r : Rectangle) (n : ℕ) (p : Option ℕ)
     → LeastOf (λ j. distance r (t j)) n p → LeastOf (λ j. distance r (t j)) (suc n) (nearest_met t r n p)
 unfolding nearest_met
-nearest_more t r n Nothing h = (
+nearest_more t r n None h = (
   omega arith,
   λ i l. let e : i ≡ n = omega arith in omega (arith, ap (λ x. distance r (t x)) e),
   λ i l. absurd (omega arith),
 )
-nearest_more t r n (At j) h =
-    cond_elim (LeastOf d (suc n)) (ltb (d n) (d j)) (At n) (At j)
+nearest_more t r n (Some j) h =
+    cond_elim (LeastOf d (suc n)) (ltb (d n) (d j)) (Some n) (Some j)
     (λ e. let b : d n < d j = ltb-true _ _ e in (
       omega arith,
       λ i l. ⊎_elim (λ q. omega (arith, ap d q)) (λ q. omega (arith, h.1 i q)) (last_or i n l),

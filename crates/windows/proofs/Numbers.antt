@@ -3,25 +3,20 @@ use Prim.Native.Nat.{ℕ, ◌+◌, ◌*◌, ◌^◌, ◌≤◌, ◌<◌}
 use native.Mathlib.Omega.{arith}
 use mathlib.Core.Path.{◌≡◌, refl, sym, ap, subst, ◌∙◌}
 use mathlib.Core.Bool.{true}
-use mathlib.Core.List.{List, [], ◌∷◌, ◌++◌}
+use mathlib.Core.List.{List, ◌++◌}
 use lib.ListN.{length, get_or, take, drop, length-drop}
-use lib.Seq.{get_or-take, get_or-drop, drop-append-le, take-append-le}
+use lib.Seq.{get_or-take, get_or-drop, length-take-le, drop-append-le, take-append-le}
 use Rattle.base.specs.Loops.{joined}
 use Rattle.base.proofs.Every.{every_one}
 use Rattle.base.proofs.Joined.{length_joined, joined_part, joined_cong}
 use Rattle.windows.specs.Rectangles.{Valid, Shares, distance, rectangle_at, box_at, every_rectangle, every_box}
 use Rattle.windows.specs.Windows.{WindowOf, window_of, patch_of, window_numbers, window_at}
-use Rattle.windows.specs.Steps.{Tallies, tallies_of, tally_of, no_tallies, tally_at, numbers_at}
+use Rattle.windows.specs.Steps.{no_tally, tallies, window_in}
 use Rattle.windows.specs.Promises.{answer_numbers}
 use Rattle.windows.specs.declared.Window.{Window}
-use Rattle.windows.specs.declared.tally.Tally.{Tally}
 use Rattle.windows.proofs.Touching.{valid_is}
-use Rattle.windows.proofs.Tallies.{tallies_at, none_long}
-use Rattle.windows.proofs.Windows.{window_same, window_is, tally_is, first_before, nearest_before, named}
-
--- the numbers of a tally, as they are answered
-abbrev tally_numbers : Tally → List ℕ
-tally_numbers t = t.count ∷ t.first ∷ t.nearest ∷ []
+use Rattle.windows.proofs.Tallies.{tallies_long, tallies_at}
+use Rattle.windows.proofs.Windows.{window_same, window_is, tally_answers, first_before, nearest_before, named}
 
 module _ (patches : List ℕ) (n : ℕ) (windows : List ℕ) (k : ℕ) where
   abbrev pub answer : ℕ → Window
@@ -37,6 +32,21 @@ module _ (patches : List ℕ) (n : ℕ) (windows : List ℕ) (k : ℕ) where
       ∙ take-append-le 3 (drop (3 * i) (joined f k)) l (omega (arith, length-drop (3 * i) (joined f k)))
       ∙ joined_part f 3 (λ i. refl) k i h
 
+  -- the tallies after the walk hold the answers
+  pub tallies_answers : (answers : List ℕ) → k ≤ 64
+      → let x = take k (tallies patches n windows k) in
+      joined (λ i. window_numbers (window_in (get_or x i no_tally))) (length x) ++ drop (3 * length x) answers
+      ≡ answer_numbers patches n windows k ++ drop (3 * k) answers
+  unfolding answer_numbers
+  tallies_answers answers few =
+      let x = take k (tallies patches n windows k) in
+      let long : length x ≡ k = length-take-le k (tallies patches n windows k) (omega (arith, tallies_long patches windows k few n)) in
+      let f : ℕ → List ℕ = λ i. window_numbers (window_in (get_or x i no_tally)) in
+      ap (λ m. joined f m ++ drop (3 * m) answers) long
+      ∙ ap (λ l. l ++ drop (3 * k) answers) (joined_cong f (λ i. window_numbers (answer i)) k
+      (λ i h. ap (λ t. window_numbers (window_in t)) (tallies_at patches windows k few n i h)
+      ∙ ap window_numbers (tally_answers (box_at patches) (rectangle_at windows i) n)))
+
   module _ (fits : n < 2 ^ 64) (r : every_rectangle windows k ≡ true) (b : every_box patches n ≡ true) where
     valid_rectangle : (i : ℕ) → i < k → Valid (rectangle_at windows i)
     valid_rectangle i h = valid_is _ (every_one _ k r i h)
@@ -47,18 +57,7 @@ module _ (patches : List ℕ) (n : ℕ) (windows : List ℕ) (k : ℕ) where
     answer_is : (i : ℕ) → i < k → WindowOf (box_at patches) n (rectangle_at windows i) (answer i)
     answer_is i h = window_is (box_at patches) (rectangle_at windows i) (valid_rectangle i h) n valid_box
 
-    -- the tallies after the walk are the answers' numbers
-    pub tallies_answers : k ≤ 64 → (s : Tallies) → s ≡ tallies_of (λ i. tally_of (box_at patches) n (rectangle_at windows i)) k no_tallies
-        → joined (numbers_at s.counts s.firsts s.nearests) k ≡ answer_numbers patches n windows k
-    unfolding answer_numbers window_numbers
-    tallies_answers few s e =
-        joined_cong (numbers_at s.counts s.firsts s.nearests) (λ i. window_numbers (answer i)) k
-        (λ i h. ap tally_numbers
-        (ap (λ x. tally_at x i) e
-        ∙ tallies_at (λ i. tally_of (box_at patches) n (rectangle_at windows i)) no_tallies k (none_long k few) i h
-        ∙ tally_is (box_at patches) (rectangle_at windows i) (valid_rectangle i h) n fits valid_box))
-
-    -- .. and each answer is read back from them
+    -- each answer is read back from the numbers
     pub answers_at : (l : List ℕ) (i : ℕ) → i < k → window_at (answer_numbers patches n windows k ++ l) i ≡ answer i
     unfolding window_at window_numbers
     answers_at l i h =

@@ -1,31 +1,31 @@
 -- The answer for a rectangle: the equation gives it by meaning, there is one only, and the walk's tally is its numbers. Assumes nothing.
-use Prim.Native.Nat.{ℕ, zero, suc, ◌^◌, ◌<◌}
+use Prim.Native.Nat.{ℕ, zero, suc, ◌+◌, ◌^◌, ◌<◌}
 use native.Mathlib.Nat.{mul-one}
 use native.Mathlib.Omega.{arith}
 use mathlib.Core.Path.{◌≡◌, refl, sym, ap, subst, ◌∙◌}
-use mathlib.Core.Bool.{Bool, true, false, cond, ◌&&◌, true≢false}
+use mathlib.Core.Bool.{true, false, cond, true≢false}
 use mathlib.Core.Logic.{◌⊎◌, inl, inr, ⊎_elim}
 use lib.Dec.{eqb}
 use borrow.Author.Tests.{eq-eqb, ne_eqb}
+use Rattle.std.specs.Prelude.{Option, Some, None}
+use Rattle.std.specs.Option.{option_or, option_map}
 use Rattle.base.specs.Loops.{turns}
 use Rattle.base.proofs.Arith.{le_or_lt, last_or}
 use Rattle.base.proofs.Pick.{pick_yes, pick_no, cond_elim}
-use Rattle.base.proofs.Tests.{either, not_second}
+use Rattle.base.proofs.Tests.{either}
 use Rattle.blobs.specs.Patches.{total, one}
 use Rattle.blobs.proofs.Sums.{total_same}
 use Rattle.windows.specs.Rectangles.{Valid, Shares, touches, distance}
 use Rattle.windows.specs.Windows.{HowMany, FirstWith, LeastOf, WindowOf, first_met, window_step, no_window, window_of}
 use Rattle.windows.specs.Windows.{no_patch, patch_number, patch_of}
-use Rattle.windows.specs.Steps.{met, farthest, tally_of}
+use Rattle.windows.specs.Steps.{met, tally_of, window_in}
 use Rattle.windows.specs.declared.Rectangle.{Rectangle}
-use Rattle.windows.specs.declared.Patch.{Patch}
-use Rattle.windows.specs.declared.Patch.TheVariants.{At, Nothing}
 use Rattle.windows.specs.declared.Window.{Window}
+use Rattle.windows.specs.declared.tally.Near.{Near}
 use Rattle.windows.specs.declared.tally.Tally.{Tally}
-use Rattle.windows.proofs.Touching.{touches_shares, shares_touches, distance_most}
-use Rattle.windows.proofs.Tallies.{tally_same}
+use Rattle.windows.proofs.Touching.{touches_shares, shares_touches}
 use Rattle.windows.proofs.Nearest.{nearest_more}
-use Rattle.windows.proofs.Least.{least_number, near_number}
+use Rattle.windows.proofs.Least.{near_of, nearest_step}
 
 pub window_same : {a b : Window} → a.count ≡ b.count → a.first ≡ b.first → a.nearest ≡ b.nearest → a ≡ b
 window_same p q r = λ z. record { count = p z; first = q z; nearest = r z }
@@ -33,11 +33,11 @@ window_same p q r = λ z. record { count = p z; first = q z; nearest = r z }
 -- ---- the first, with one patch more
 
 first_more : (t : ℕ → Rectangle) (r : Rectangle) (P : ℕ → Type 0) (n : ℕ) → (touches r (t n) ≡ true → P n) → (touches r (t n) ≡ false → P n → ⊥)
-    → (p : Patch) → FirstWith P n p → FirstWith P (suc n) (first_met t r n p)
+    → (p : Option ℕ) → FirstWith P n p → FirstWith P (suc n) (first_met t r n p)
 unfolding first_met
-first_more t r P n f g (At j) h = (omega (arith, h.0), h.1, h.2)
-first_more t r P n f g Nothing h =
-    cond_elim (FirstWith P (suc n)) (touches r (t n)) (At n) Nothing
+first_more t r P n f g (Some j) h = (omega (arith, h.0), h.1, h.2)
+first_more t r P n f g None h =
+    cond_elim (FirstWith P (suc n)) (touches r (t n)) (Some n) None
     (λ e. (omega arith, f e, h))
     (λ e j l. ⊎_elim (λ q. subst (λ i. P i → ⊥) (sym q) (g e)) (λ b. h j b) (last_or j n l))
 
@@ -105,17 +105,17 @@ many_one P n a b p q = p.many ∙ total_same one p.counts q.counts n (λ j l. al
 level : (i j : ℕ) → (i < j → ⊥) → (j < i → ⊥) → i ≡ j
 level i j f g = ⊎_elim (λ h. ⊎_elim (λ e. e) (λ l. absurd (f l)) (last_or i j (omega arith))) (λ h. absurd (g h)) (le_or_lt i j)
 
-first_one : (P : ℕ → Type 0) (n : ℕ) (a b : Patch) → FirstWith P n a → FirstWith P n b → a ≡ b
-first_one P n Nothing Nothing p q = refl
-first_one P n Nothing (At j) p q = absurd (p j q.0 q.1)
-first_one P n (At i) Nothing p q = absurd (q i p.0 p.1)
-first_one P n (At i) (At j) p q = ap At (level i j (λ l. q.2 i l p.1) (λ l. p.2 j l q.1))
+first_one : (P : ℕ → Type 0) (n : ℕ) (a b : Option ℕ) → FirstWith P n a → FirstWith P n b → a ≡ b
+first_one P n None None p q = refl
+first_one P n None (Some j) p q = absurd (p j q.0 q.1)
+first_one P n (Some i) None p q = absurd (q i p.0 p.1)
+first_one P n (Some i) (Some j) p q = ap Some (level i j (λ l. q.2 i l p.1) (λ l. p.2 j l q.1))
 
-nearest_one : (d : ℕ → ℕ) (n : ℕ) (a b : Patch) → LeastOf d n a → LeastOf d n b → a ≡ b
-nearest_one d n Nothing Nothing p q = refl
-nearest_one d n Nothing (At j) p q = absurd (omega (arith, q.0))
-nearest_one d n (At i) Nothing p q = absurd (omega (arith, p.0))
-nearest_one d n (At i) (At j) p q = ap At (level i j (λ l. omega (arith, q.2 i l, p.1 j q.0)) (λ l. omega (arith, p.2 j l, q.1 i p.0)))
+nearest_one : (d : ℕ → ℕ) (n : ℕ) (a b : Option ℕ) → LeastOf d n a → LeastOf d n b → a ≡ b
+nearest_one d n None None p q = refl
+nearest_one d n None (Some j) p q = absurd (omega (arith, q.0))
+nearest_one d n (Some i) None p q = absurd (omega (arith, p.0))
+nearest_one d n (Some i) (Some j) p q = ap Some (level i j (λ l. omega (arith, q.2 i l, p.1 j q.0)) (λ l. omega (arith, p.2 j l, q.1 i p.0)))
 
 pub window_one : (t : ℕ → Rectangle) (n : ℕ) (r : Rectangle) (a b : Window) → WindowOf t n r a → WindowOf t n r b → a ≡ b
 window_one t n r a b p q =
@@ -127,52 +127,51 @@ window_one t n r a b p q =
 -- ---- in numbers
 
 -- a patch before place n
-abbrev pub Before : ℕ → Patch → Type 0
-Before n Nothing = Unit {0}
-Before n (At j) = j < n
+abbrev pub Before : ℕ → Option ℕ → Type 0
+Before n None = Unit {0}
+Before n (Some j) = j < n
 
-pub first_before : (P : ℕ → Type 0) (n : ℕ) (p : Patch) → FirstWith P n p → Before n p
-first_before P n Nothing h = tt
-first_before P n (At j) h = h.0
+pub first_before : (P : ℕ → Type 0) (n : ℕ) (p : Option ℕ) → FirstWith P n p → Before n p
+first_before P n None h = tt
+first_before P n (Some j) h = h.0
 
-pub nearest_before : (d : ℕ → ℕ) (n : ℕ) (p : Patch) → LeastOf d n p → Before n p
-nearest_before d n Nothing h = tt
-nearest_before d n (At j) h = h.0
+pub nearest_before : (d : ℕ → ℕ) (n : ℕ) (p : Option ℕ) → LeastOf d n p → Before n p
+nearest_before d n None h = tt
+nearest_before d n (Some j) h = h.0
 
 -- a place before 2 ^ 64 - 1 is not the number of no patch
 place_number : (n j : ℕ) → n < 2 ^ 64 → j < n → eqb j no_patch ≡ false
 place_number n j f l = ne_eqb j no_patch (λ e. omega arith)
 
-pub named : (n : ℕ) (p : Patch) → n < 2 ^ 64 → Before n p → patch_of (patch_number p) ≡ p
+pub named : (n : ℕ) (p : Option ℕ) → n < 2 ^ 64 → Before n p → patch_of (patch_number p) ≡ p
 unfolding patch_of patch_number
-named n Nothing f h = sym (pick_yes _ Nothing (At no_patch) (eq-eqb no_patch no_patch refl))
-named n (At j) f h = sym (pick_no _ Nothing (At j) (place_number n j f h))
+named n None f h = sym (pick_yes _ None (Some no_patch) (eq-eqb no_patch no_patch refl))
+named n (Some j) f h = sym (pick_no _ None (Some j) (place_number n j f h))
 
--- ---- the tally is the answer in numbers
+-- ---- the tally is the answer, with the distance of the nearest
 
 module _ (t : ℕ → Rectangle) (r : Rectangle) where
-  abbrev pub tallied : Window → Tally
-  tallied a = record { count = a.count; first = patch_number a.first; nearest = patch_number a.nearest; least = least_number t r a.nearest }
+  abbrev tallied : Window → Tally
+  tallied a = record { count = a.count; first = a.first; nearest = option_map (near_of t r) a.nearest }
 
-  first_number : (n : ℕ) (p : Patch) → n < 2 ^ 64 → Before n p
-      → cond (touches r (t n) && eqb (patch_number p) no_patch) n (patch_number p) ≡ patch_number (first_met t r n p)
-  unfolding first_met patch_number
-  first_number n (At i) f h = sym (pick_no _ n i (not_second (touches r (t n)) (place_number n i f h)))
-  first_number n Nothing f h = by_test (touches r (t n))
-    where
-      by_test : (b : Bool) → cond (b && eqb no_patch no_patch) n no_patch ≡ patch_number (cond b (At n) Nothing)
-      by_test true = sym (pick_yes _ n no_patch (eq-eqb no_patch no_patch refl))
-      by_test false = refl
+  first_step : (n : ℕ) (p : Option ℕ) → option_or p (cond (touches r (t n)) (Some n) None) ≡ first_met t r n p
+  unfolding first_met
+  first_step n None = refl
+  first_step n (Some i) = refl
 
-  module _ (s : Valid r) where
-    pub tally_is : (n : ℕ) → n < 2 ^ 64 → ((j : ℕ) → j < n → Valid (t j)) → tally_of t n r ≡ tallied (window_of t n r)
-    unfolding tally_of turns window_of least_number patch_number met
-    tally_is zero f h = refl
-    tally_is (suc n) f h =
-        let a = window_of t n r in
-        let g : (j : ℕ) → j < n → Valid (t j) = λ j l. h j (omega arith) in
-        let d : distance r (t n) < farthest = omega (arith, distance_most r (t n) s (h n (omega arith))) in
-        let b = near_number t r n a.nearest d in
-        let early = first_before (λ j. Shares r (t j)) n a.first (first_is t r s n g) in
-        ap (met r (t n) n) (tally_is n (omega arith) g)
-        ∙ tally_same {t = met r (t n) n (tallied a)} {u = tallied (window_step t r n a)} refl (first_number n a.first (omega arith) early) b.0 b.1
+  tally_is : (n : ℕ) → tally_of t n r ≡ tallied (window_of t n r)
+  unfolding tally_of turns window_of met
+  tally_is zero = refl
+  tally_is (suc n) =
+      let a = window_of t n r in
+      let first = first_step n a.first in
+      let nearest = nearest_step t r n a.nearest in
+      ap (met r (t n) n) (tally_is n)
+      ∙ (λ z. record { count = a.count + cond (touches r (t n)) 1 0; first = first z; nearest = nearest z })
+
+  nearest_back : (p : Option ℕ) → option_map (λ (m : Near). m.patch) (option_map (near_of t r) p) ≡ p
+  nearest_back None = refl
+  nearest_back (Some j) = refl
+
+  pub tally_answers : (n : ℕ) → window_in (tally_of t n r) ≡ window_of t n r
+  tally_answers n = ap window_in (tally_is n) ∙ window_same refl refl (nearest_back (window_of t n r).nearest)

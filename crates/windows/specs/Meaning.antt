@@ -2,8 +2,6 @@
 -- nothing.
 use Rattle.std.specs.Prelude.{ℕ, ◌*◌, ◌≤◌, ◌<◌, ◌≡◌, true, ◌↔◌, List, length, take, drop}
 use Rattle.frame.specs.Refusals.{Lowest, lowest_of}
-use Rattle.frame.specs.declared.Verdict.{Verdict}
-use Rattle.frame.specs.declared.Verdict.TheVariants.{Accepted}
 use Rattle.blobs.specs.Patches.{record_length}
 use Rattle.windows.specs.Rectangles.{rectangle_length, rectangle_at, box_at, Valid, Shares, touches}
 use Rattle.windows.specs.Windows.{most_windows, WindowOf, window_of, no_window, window_length, window_at}
@@ -29,17 +27,17 @@ OneWindow = (t : ℕ → Rectangle) (n : ℕ) (r : Rectangle) (a b : Window) →
 -- where its area holds an answer, and gives the numbers that stand at i in the answers of an accepted call
 abbrev pub Alone : Type 0
 Alone =
-    (patches : List ℕ) (n : ℕ) (windows : List ℕ) (k : ℕ) (answers answers' : List ℕ) (v : Verdict)
-    → Windowing patches n windows k answers answers' v → v ≡ Accepted
-    → (i : ℕ) → i < k → (own own' : List ℕ) (u : Verdict) → window_length ≤ length own
+    (patches : List ℕ) (n : ℕ) (windows : List ℕ) (k : ℕ) (answers answers' : List ℕ) (v : ℕ)
+    → Windowing patches n windows k answers answers' v → v ≡ 0
+    → (i : ℕ) → i < k → (own own' : List ℕ) (u : ℕ) → window_length ≤ length own
     → Windowing patches n (take rectangle_length (drop (rectangle_length * i) windows)) 1 own own' u
-    → (u ≡ Accepted) × (take window_length own' ≡ take window_length (drop (window_length * i) answers'))
+    → (u ≡ 0) × (take window_length own' ≡ take window_length (drop (window_length * i) answers'))
 
 -- [27.8] "an empty list gives counts of 0 and no patch"
 abbrev pub EmptyList : Type 0
 EmptyList =
-    (patches windows : List ℕ) (k : ℕ) (answers answers' : List ℕ) (v : Verdict)
-    → Windowing patches 0 windows k answers answers' v → v ≡ Accepted
+    (patches windows : List ℕ) (k : ℕ) (answers answers' : List ℕ) (v : ℕ)
+    → Windowing patches 0 windows k answers answers' v → v ≡ 0
     → (i : ℕ) → i < k → window_at answers' i ≡ no_window
 
 -- ---- refusals

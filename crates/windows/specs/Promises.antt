@@ -1,8 +1,8 @@
 -- What `patch_windows` does (requirements, 27). Assumes nothing.
 use Rattle.std.specs.Prelude.{ℕ, ◌*◌, ◌≤◌, ◌<◌, ◌≡◌, not, ◌||◌, List, [], ◌∷◌, ◌++◌, ltb, length, drop}
 use Rattle.base.specs.Loops.{joined}
-use Rattle.frame.specs.Refusals.{verdict_of, Check, check, lowest_of}
-use Rattle.frame.specs.declared.Verdict.{Verdict}
+use Rattle.frame.specs.Refusals.{Check, check, lowest_of}
+use Rattle.frame.specs.declared.refusals.Refusal.TheVariants.{AreaShort, RectangleWrong}
 use Rattle.blobs.specs.Patches.{record_length}
 use Rattle.windows.specs.Rectangles.{rectangle_length, rectangle_at, box_at, every_rectangle, every_box}
 use Rattle.windows.specs.Windows.{most_windows, WindowOf, window_of, window_length, window_numbers, window_at}
@@ -11,10 +11,10 @@ use Rattle.windows.specs.Windows.{most_windows, WindowOf, window_of, window_leng
 -- [27.10] or a rectangle or patch box with an end before its start or above 4,095
 unfoldable pub window_tests : List ℕ → ℕ → List ℕ → ℕ → List ℕ → List Check
 window_tests patches n windows k answers =
-    check 3
+    check AreaShort
     (ltb (length answers) (window_length * k) || (ltb (length windows) (rectangle_length * k)
     || ltb (length patches) (record_length * n)))
-    ∷ check 17 (ltb most_windows k || (not (every_rectangle windows k) || not (every_box patches n)))
+    ∷ check RectangleWrong (ltb most_windows k || (not (every_rectangle windows k) || not (every_box patches n)))
     ∷ []
 
 -- the answers of k rectangles over n patches, one after another
@@ -22,11 +22,11 @@ unfoldable pub answer_numbers : List ℕ → ℕ → List ℕ → ℕ → List �
 answer_numbers patches n windows k =
     joined (λ i. window_numbers (window_of (box_at patches) n (rectangle_at windows i))) k
 
--- the answer area becomes answers'
+-- the answer area becomes answers'; number is the answer's
 pub record Windowing (patches : List ℕ) (n : ℕ) (windows : List ℕ) (k : ℕ) (answers answers' : List ℕ)
-    (v : Verdict) : Type 0 where
+    (number : ℕ) : Type 0 where
   -- [2.12, 27.11] the lowest number that applies is given: 3 before 17
-  pub given : v ≡ verdict_of (lowest_of (window_tests patches n windows k answers))
+  pub given : number ≡ lowest_of (window_tests patches n windows k answers)
   -- [27.2, 27.3, 27.4] by equation; [17.6] a longer area keeps its rest
   pub accepted : lowest_of (window_tests patches n windows k answers) ≡ 0
       → answers' ≡ answer_numbers patches n windows k ++ drop (window_length * k) answers

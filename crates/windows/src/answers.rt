@@ -1,47 +1,54 @@
 // The answers: three numbers a rectangle.
-ghost use Rattle.std.specs.Prelude.{◌≡◌, [], ◌∷◌, ◌++◌, ◌*◌, ◌+◌, ◌≤◌, length, drop};
+ghost use Rattle.std.specs.Prelude.{◌≡◌, ◌++◌, ◌*◌, ◌+◌, ◌≤◌, length, drop, slice_index_or};
 ghost use Rattle.base.specs.Loops.{joined};
-ghost use Rattle.windows.specs.Windows.{most_windows, window_length, patch_of, window_at};
-ghost use Rattle.windows.specs.Steps.{numbers_at};
+ghost use Rattle.windows.specs.Windows.{window_length, patch_number, patch_of, window_numbers, window_at};
+ghost use Rattle.windows.specs.Steps.{no_tally, window_in};
 
-use super::{MOST_WINDOWS, NO_PATCH, Patch, WINDOW_LENGTH, Window};
+use super::tally::Tally;
+use super::{NO_PATCH, WINDOW_LENGTH, Window};
 
-fn put_window(area: &mut [u64], count: u64, first: u64, nearest: u64)
-    requires { length area.old ≡ window_length }
-    ensures { area.new ≡ count ∷ first ∷ nearest ∷ [] }
+// The number that stands for a patch in an answer.
+fn patch_number(patch: Option<usize>) -> u64
+    ensures { result ≡ patch_number patch }
 {
-    area[0] = count;
-    area[1] = first;
-    area[2] = nearest;
+    match patch {
+        Some(j) => j as u64,
+        None => NO_PATCH,
+    }
 }
 
-// The first k answers, from the start of the area.
-pub fn put_windows(
-    counts: &[u64; MOST_WINDOWS],
-    firsts: &[u64; MOST_WINDOWS],
-    nearests: &[u64; MOST_WINDOWS],
-    k: usize,
-    answers: &mut [u64],
-)
-    requires { (k ≤ most_windows) × (window_length * k ≤ length answers.old) }
-    ensures { answers.new ≡ joined (numbers_at counts.now firsts.now
-        nearests.now) k ++ drop (window_length * k) answers.old }
+fn put_window(area: &mut [u64], window: Window)
+    requires { length area.old ≡ window_length }
+    ensures { area.new ≡ window_numbers window }
 {
-    for i in 0..k {
+    area.copy_from_slice(&[
+        window.count,
+        patch_number(window.first),
+        patch_number(window.nearest),
+    ]);
+}
+
+// The answers of these tallies, from the start of the area.
+pub fn put_windows(tallies: &[Tally], answers: &mut [u64])
+    requires { window_length * length tallies.now ≤ length answers.old }
+    ensures { answers.new
+        ≡ joined (λ i. window_numbers (window_in (slice_index_or tallies.now i no_tally))) (length tallies.now)
+        ++ drop (window_length * length tallies.now) answers.old }
+{
+    for (i, tally) in tallies.iter().enumerate() {
         let at = WINDOW_LENGTH * i;
-        let end = at + WINDOW_LENGTH;
-        put_window(&mut answers[at..end], counts[i], firsts[i], nearests[i]);
+        put_window(&mut answers[at..at + WINDOW_LENGTH], tally.window());
     }
 }
 
 // The patch that a number of an answer names.
-fn patch_of(v: u64) -> Patch
+fn patch_of(v: u64) -> Option<usize>
     ensures { result ≡ patch_of v }
 {
     if v == NO_PATCH {
-        return Patch::Nothing;
+        return None;
     }
-    Patch::At(v as usize)
+    Some(v as usize)
 }
 
 // Answer i of an area.

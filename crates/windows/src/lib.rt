@@ -7,13 +7,13 @@ mod rectangles;
 mod tally;
 mod walk;
 
-ghost use Rattle.std.specs.Prelude.{◌≡◌, length};
-ghost use Rattle.frame.specs.Refusals.{lowest_of};
+ghost use Rattle.std.specs.Prelude.{◌≡◌, OnOk, IfErr, length};
+ghost use Rattle.frame.specs.Refusals.{number, number_of, lowest_of};
 ghost use Rattle.windows.specs.Steps.{Fitting};
 ghost use Rattle.windows.specs.Promises.{window_tests, Windowing};
 
 use answers::put_windows;
-use frame::Verdict;
+use frame::Refusal;
 use rectangles::every_rectangle;
 use walk::walk;
 
@@ -35,45 +35,38 @@ pub struct Rectangle {
     pub y1: u64,
 }
 
-// A patch by its place in the list, or none.
-#[derive(Clone, Copy)]
-pub enum Patch {
-    At(usize),
-    Nothing,
-}
-
-// The answer for a rectangle: how many boxes share a pixel with it, the first of these patches, and
-// the patch whose box centre is nearest.
+// The answer for a rectangle: how many boxes share a pixel with it, and by their places in the list
+// the first of these patches and the patch whose box centre is nearest.
 #[derive(Clone, Copy)]
 pub struct Window {
     pub count: u64,
-    pub first: Patch,
-    pub nearest: Patch,
+    pub first: Option<usize>,
+    pub nearest: Option<usize>,
 }
 
-// The number of a refusal by all that is handed in but the patches' boxes, or 0. The products
-// 3 * k, 4 * k and 8 * n may not fit 64 bits, so the lengths are divided.
-fn refused(patches: &[u64], n: usize, windows: &[u64], k: usize, answers: &[u64]) -> u32
-    ensures { (result ≡ 0 → Fitting patches.now n windows.now k
-        (length answers.now)) × ((result ≡ 0 → ⊥) → result ≡ lowest_of (window_tests patches.now n
-        windows.now k answers.now)) }
+// The tests of all that is handed in but the patches' boxes. The products 3 * k, 4 * k and 8 * n may
+// not fit 64 bits, so the lengths are divided.
+fn refused(
+    patches: &[u64],
+    n: usize,
+    windows: &[u64],
+    k: usize,
+    answers: &[u64],
+) -> Result<(), Refusal>
+    ensures fitting { OnOk result (Fitting patches.now n windows.now k (length answers.now)) }
+    ensures lowest { IfErr result (λ r. number r
+        ≡ lowest_of (window_tests patches.now n windows.now k answers.now)) }
 {
-    if answers.len() / WINDOW_LENGTH < k {
-        return 3;
+    if answers.len() / WINDOW_LENGTH < k
+        || windows.len() / RECTANGLE_LENGTH < k
+        || patches.len() / blobs::RECORD_LENGTH < n
+    {
+        return Err(Refusal::AreaShort);
     }
-    if windows.len() / RECTANGLE_LENGTH < k {
-        return 3;
+    if MOST_WINDOWS < k || !every_rectangle(windows, k) {
+        return Err(Refusal::RectangleWrong);
     }
-    if patches.len() / blobs::RECORD_LENGTH < n {
-        return 3;
-    }
-    if MOST_WINDOWS < k {
-        return 17;
-    }
-    if !every_rectangle(windows, k) {
-        return 17;
-    }
-    0
+    Ok(())
 }
 
 // Answers k rectangles, four numbers each (x0, y0, x1, y1, both ends counted), over the first n
@@ -86,30 +79,11 @@ pub fn patch_windows(
     windows: &[u64],
     k: usize,
     answers: &mut [u64],
-) -> Verdict
-    ensures { Windowing patches.now n windows.now k answers.old
-        answers.new result }
+) -> Result<(), Refusal>
+    ensures { Windowing patches.now n windows.now k answers.old answers.new (number_of result) }
 {
-    let number = refused(patches, n, windows, k, answers);
-    if number != 0 {
-        return Verdict::Refused(number);
-    }
-    let mut counts = [0u64; MOST_WINDOWS];
-    let mut firsts = [NO_PATCH; MOST_WINDOWS];
-    let mut nearests = [NO_PATCH; MOST_WINDOWS];
-    let mut least = [tally::FARTHEST; MOST_WINDOWS];
-    if !walk(
-        patches,
-        n,
-        windows,
-        k,
-        &mut counts,
-        &mut firsts,
-        &mut nearests,
-        &mut least,
-    ) {
-        return Verdict::Refused(17);
-    }
-    put_windows(&counts, &firsts, &nearests, k, answers);
-    Verdict::Accepted
+    refused(patches, n, windows, k, answers)?;
+    let tallies = walk(patches, n, windows, k)?;
+    put_windows(&tallies[..k], answers);
+    Ok(())
 }

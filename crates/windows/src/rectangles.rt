@@ -3,7 +3,7 @@
 ghost use Rattle.std.specs.Prelude.{◌≡◌, ◌*◌, ◌+◌, ◌≤◌, ◌<◌, length};
 ghost use Rattle.blobs.specs.Patches.{record_length};
 ghost use Rattle.windows.specs.Rectangles.{rectangle_length, rectangle_at, box_at, Valid, valid};
-ghost use Rattle.windows.specs.Rectangles.{every_rectangle, touches, apart, distance};
+ghost use Rattle.windows.specs.Rectangles.{every_rectangle, touches, distance};
 
 use super::{RECTANGLE_LENGTH, Rectangle};
 use blobs::internal::blob_at;
@@ -51,13 +51,10 @@ pub fn every_rectangle(windows: &[u64], k: usize) -> bool
     requires { rectangle_length * k ≤ length windows.now }
     ensures { result ≡ every_rectangle windows.now k }
 {
-    let mut i: usize = 0;
-    while i < k {
-        let r = rectangle_at(windows, i);
-        if !valid(r) {
+    for i in 0..k {
+        if !valid(rectangle_at(windows, i)) {
             return false;
         }
-        i += 1;
     }
     true
 }
@@ -69,20 +66,13 @@ pub fn touches(r: Rectangle, b: Rectangle) -> bool
     (b.x0 <= r.x1) & (r.x0 <= b.x1) & (b.y0 <= r.y1) & (r.y0 <= b.y1)
 }
 
-// The difference of two numbers, the less from the greater.
-fn apart(a: u64, b: u64) -> u64
-    ensures { result ≡ apart a b }
-{
-    if a < b { b - a } else { a - b }
-}
-
 // The squared distance of the centres, in doubled whole numbers: x0 + x1 is twice the middle
 // column.
 pub fn distance(r: Rectangle, b: Rectangle) -> u64
     requires { Valid r × Valid b }
     ensures { result ≡ distance r b }
 {
-    let dx = apart(r.x0 + r.x1, b.x0 + b.x1);
-    let dy = apart(r.y0 + r.y1, b.y0 + b.y1);
+    let dx = (r.x0 + r.x1).abs_diff(b.x0 + b.x1);
+    let dy = (r.y0 + r.y1).abs_diff(b.y0 + b.y1);
     dx * dx + dy * dy
 }

@@ -1,41 +1,68 @@
 // What is known of a rectangle while the list is gone through.
-ghost use Rattle.std.specs.Prelude.{cond, ◌≡◌, ◌+◌, ◌<◌, ◌^◌};
+ghost use Rattle.std.specs.Prelude.{◌≡◌, ◌+◌, ◌<◌, ◌^◌};
 ghost use Rattle.windows.specs.Rectangles.{Valid};
-ghost use Rattle.windows.specs.Steps.{met};
+ghost use Rattle.windows.specs.Steps.{nearer, met, window_in};
 
 use super::rectangles::{distance, touches};
-use super::{NO_PATCH, Rectangle};
+use super::{Rectangle, Window};
 
-// Farther than any two centres are apart.
-pub const FARTHEST: u64 = 18_446_744_073_709_551_615;
+// A patch, and how far its box centre is from the rectangle's.
+#[derive(Clone, Copy)]
+pub struct Near {
+    pub patch: usize,
+    pub distance: u64,
+}
 
-// The answer up to some patch, in numbers, and the distance of the nearest.
+// The answer up to some patch, and the distance of the nearest.
 #[derive(Clone, Copy)]
 pub struct Tally {
     pub count: u64,
-    pub first: u64,
-    pub nearest: u64,
-    pub least: u64,
+    pub first: Option<usize>,
+    pub nearest: Option<Near>,
 }
 
-fn choose(t: bool, a: u64, b: u64) -> u64
-    ensures { result ≡ cond t a b }
+pub const NO_TALLY: Tally = Tally {
+    count: 0,
+    first: None,
+    nearest: None,
+};
+
+impl Tally {
+    // The answer alone.
+    pub fn window(&self) -> Window
+        ensures { result ≡ window_in self.now }
+    {
+        Window {
+            count: self.count,
+            first: self.first,
+            nearest: self.nearest.map(|near| near.patch),
+        }
+    }
+}
+
+// The nearer of two, the earlier of equals.
+fn nearer(kept: Option<Near>, next: Near) -> Option<Near>
+    ensures { result ≡ nearer kept next }
 {
-    if t { a } else { b }
+    match kept {
+        Some(near) if near.distance <= next.distance => kept,
+        _ => Some(next),
+    }
 }
 
 // The tally of rectangle r once patch j, whose box is b, has been looked at.
-pub fn meet(t: Tally, r: Rectangle, b: Rectangle, j: u64) -> Tally
+pub fn meet(t: Tally, r: Rectangle, b: Rectangle, j: usize) -> Tally
     requires { Valid r × Valid b × (t.count + 1 < 2 ^ 64) }
     ensures { result ≡ met r b j t }
 {
-    let hit = touches(r, b);
-    let d = distance(r, b);
-    let nearer = d < t.least;
+    let touching = touches(r, b);
+    let here = Near {
+        patch: j,
+        distance: distance(r, b),
+    };
     Tally {
-        count: t.count + choose(hit, 1, 0),
-        first: choose(hit & (t.first == NO_PATCH), j, t.first),
-        nearest: choose(nearer, j, t.nearest),
-        least: choose(nearer, d, t.least),
+        count: t.count + touching as u64,
+        first: t.first.or(touching.then_some(j)),
+        nearest: nearer(t.nearest, here),
     }
 }

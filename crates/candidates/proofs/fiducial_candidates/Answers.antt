@@ -1,33 +1,17 @@
 -- `candidates::fiducial_candidates` meets its contract: what `look` leaves, where no test refuses. Assumes nothing.
-use native.Mathlib.Omega.{arith}
-use mathlib.Core.Path.{refl, sym, ap, ◌∙◌}
-use Rattle.frame.specs.Refusals.{verdict_of}
-use Rattle.frame.proofs.Given.{refused_is, accepted_is}
-use Rattle.candidates.proofs.Looks.{ready}
+use mathlib.Core.Path.{sym}
+use Rattle.std.proofs.lemmas.Result.{err_from_is_err_and}
+use Rattle.candidates.proofs.Looks.{ready, listing_refused, listing_found}
+use Rattle.candidates.proofs.Refusing.{by_lengths}
 use Rattle.candidates.proofs.fiducial_candidates.Goals as goal
 
-pub refused-number-requires : goal.refused-number-requires
-refused-number-requires c = tt
+pub look-requires : goal.look-requires
+look-requires c = ready _ _ _ (sym (by_lengths _ _ _ _ c.of-lengths.ensures c.in_ok-refused.ensures))
 
-pub returns-then-number-ne0 : goal.returns-then-number-ne0
-returns-then-number-ne0 c =
-    let e = c.refused-number.ensures in
-    let n = c.if-number-ne0.true in
-    record {
-      given = refused_is _ n ∙ ap verdict_of e;
-      accepted = λ z. absurd (n (e ∙ z));
-      refused = λ z. (refl, refl, refl, refl);
-    }
-
-pub look-c-requires : goal.look-c-requires
-look-c-requires c = ready _ _ _ (sym c.refused-number.ensures
-    ∙ c.if-number-ne0.false)
+pub returns-in_err-refused : goal.returns-in_err-refused
+returns-in_err-refused c =
+    let p = err_from_is_err_and c.from_residual.result c.from_residual.ensures.1 in
+    rw (p.1, p.2) (listing_refused _ _ _ _ (by_lengths _ _ _ _ c.of-lengths.ensures c.in_err-refused.ensures))
 
 pub returns : goal.returns
-returns c =
-    let e = sym c.refused-number.ensures ∙ c.if-number-ne0.false in
-    record {
-      given = accepted_is _ e;
-      accepted = λ z. c.look-c.ensures;
-      refused = λ z. absurd (omega (arith, e, z));
-    }
+returns c = listing_found _ _ _ _ _ _ _ (by_lengths _ _ _ _ c.of-lengths.ensures c.in_ok-refused.ensures) c.look.ensures

@@ -2,81 +2,64 @@
 use Rattle.base.proofs.Parts.{lent_rest}
 use lib.Seq.{length-take-le, length_front}
 use borrow.Author.Tests.{lt-ltb, le-ltb}
-use lib.Dec.{ltb}
+use Rattle.std.specs.Prelude.{Ok}
+use Rattle.frame.proofs.Given.{answer_first, answer_next, answer_none, answer_number}
 use Rattle.frame.specs.Image.{image}
-use mathlib.Core.Bool.{true, false}
-use Rattle.frame.specs.Refusals.{frame_outside, capture_wrong, lowest_of}
+use Rattle.frame.specs.Refusals.{number_of, lowest_of, answer_for}
+use Rattle.fit.specs.Grid.{grade_of}
 use Rattle.frame.proofs.Held.{frame_held, capture_held}
-use Rattle.frame.proofs.Lowest.{lowest_first, lowest_next, lowest_none}
-use Rattle.fit.proofs.Cases.{scored_refused, scored_is}
 use Rattle.fit.specs.Promises.{grid_tests, means_short, sampled_cells}
+use lib.Dec.{ltb}
+use mathlib.Core.Bool.{true, false}
 use native.Mathlib.Omega.{arith}
 use Prim.Native.Nat.{◌≤◌}
-use mathlib.Core.Path.{◌≡◌, refl, sym, ◌∙◌}
+use mathlib.Core.Path.{◌≡◌, refl, sym, ap, ◌∙◌}
 use lib.ListN.{length}
 use Rattle.fit.proofs.grid_score.Goals as goal
 
 pub returns-then-frame_outside : goal.returns-then-frame_outside
 unfolding grid_tests
 returns-then-frame_outside c =
-    let a = c.args in
-    let e : frame_outside a.frame ≡ true = sym c.frame_outside.ensures ∙ c.if-frame_outside.true in
-    let z : lowest_of (grid_tests (image a.w a.h a.capture.now) a.frame a.means.now) ≡ 1 = lowest_first 1 _ _ e in
-    record { given = scored_refused _ 0 _ z; means_rest = (refl, refl); untouched = λ _. refl }
+    record { given = answer_first _ _ _ _ (cc); means_rest = (refl, refl); untouched = λ _. refl }
 
 pub returns-then-capture_wrong : goal.returns-then-capture_wrong
 unfolding grid_tests
 returns-then-capture_wrong c =
-    let a = c.args in
-    let e : frame_outside a.frame ≡ false = sym c.frame_outside.ensures ∙ c.if-frame_outside.false in
-    let d : capture_wrong (image a.w a.h a.capture.now) ≡ true = sym c.capture_wrong.ensures ∙ c.if-capture_wrong.true in
-    let z : lowest_of (grid_tests (image a.w a.h a.capture.now) a.frame a.means.now) ≡ 2 = lowest_next 1 _ _ e ∙ lowest_first 2 _ _ d in
-    record { given = scored_refused _ 1 _ z; means_rest = (refl, refl); untouched = λ _. refl }
+    record { given = answer_next _ _ _ _ (cc) (answer_first _ _ _ _ (cc)); means_rest = (refl, refl); untouched = λ _. refl }
 
 pub sampled_cells-n-requires : goal.sampled_cells-n-requires
-sampled_cells-n-requires c = frame_held _ (sym c.frame_outside.ensures ∙ c.if-frame_outside.false)
+sampled_cells-n-requires c = frame_held _ (cc)
 
 pub returns-then-means-n : goal.returns-then-means-n
 unfolding grid_tests means_short
 returns-then-means-n c =
-    let a = c.args in
-    let e : frame_outside a.frame ≡ false = sym c.frame_outside.ensures ∙ c.if-frame_outside.false in
-    let d : capture_wrong (image a.w a.h a.capture.now) ≡ false = sym c.capture_wrong.ensures ∙ c.if-capture_wrong.false in
-    let g : ltb (length a.means.now) (sampled_cells a.frame) ≡ true = lt-ltb (length a.means.now) (sampled_cells a.frame) (omega (arith, c.sampled_cells-n.ensures.0)) in
-    let z : lowest_of (grid_tests (image a.w a.h a.capture.now) a.frame a.means.now) ≡ 3 = lowest_next 1 _ _ e ∙ lowest_next 2 _ _ d ∙ lowest_first 3 _ _ g in
-    record { given = scored_refused _ 2 _ z; means_rest = (refl, refl); untouched = λ _. refl }
+    let short : ltb (length c.args.means.now) (sampled_cells c.args.frame) ≡ true = lt-ltb _ _ (omega (arith, c.sampled_cells-n.ensures.0)) in
+    record {
+      given = answer_next _ _ _ _ (cc) (answer_next _ _ _ _ (cc) (answer_first _ _ _ _ short));
+      means_rest = (refl, refl);
+      untouched = λ _. refl;
+    }
 
-pub slice_bounds-grade-end-2 : goal.slice_bounds-grade-end-2
-slice_bounds-grade-end-2 c = sym (length-take-le _ _ (omega arith))
-
-pub grade-g-requires : goal.grade-g-requires
-grade-g-requires c =
-    let e = sym c.frame_outside.ensures ∙ c.if-frame_outside.false in
-    let d = sym c.capture_wrong.ensures ∙ c.if-capture_wrong.false in
-    (capture_held _ d, frame_held _ e, length-take-le _ _ (omega arith) ∙ c.sampled_cells-n.ensures.0)
-
-pub shape_of-means : goal.shape_of-means
-shape_of-means c =
-    length_front c.args.means.now
-    c.grade-g.new.means c.sampled_cells-n.result
-    c.grade-g.auto.means
+pub grade-requires : goal.grade-requires
+grade-requires c = (capture_held _ (cc), frame_held _ (cc), length-take-le _ _ (omega arith) ∙ c.sampled_cells-n.ensures.0)
 
 pub returns : goal.returns
 unfolding grid_tests means_short
 returns c =
     let a = c.args in
-    let n = c.sampled_cells-n.result in
-    let e : frame_outside a.frame ≡ false = sym c.frame_outside.ensures ∙ c.if-frame_outside.false in
-    let d : capture_wrong (image a.w a.h a.capture.now) ≡ false = sym c.capture_wrong.ensures ∙ c.if-capture_wrong.false in
-    let h : n ≤ length a.means.now = omega arith in
-    let g : ltb (length a.means.now) (sampled_cells a.frame) ≡ false = le-ltb (length a.means.now) (sampled_cells a.frame)
-    (omega (arith, c.sampled_cells-n.ensures.0)) in
-    let z : lowest_of (grid_tests (image a.w a.h a.capture.now) a.frame a.means.now) ≡ 0 = lowest_next 1 _ _ e ∙ lowest_next 2 _ _ d ∙ lowest_next 3 _ _ g ∙ lowest_none in
+    let n = c.sampled_cells-n in
+    let img = image a.w a.h a.capture.now in
+    let tests = grid_tests img a.frame a.means.now in
+    let h : n.result ≤ length a.means.now = omega arith in
+    let long : ltb (length a.means.now) (sampled_cells a.frame) ≡ false = le-ltb _ _ (omega (arith, n.ensures.0)) in
+    let given : Ok c.grade.result ≡ answer_for tests (grade_of img a.frame a.fit) =
+    ap Ok c.grade.ensures ∙ answer_next _ _ _ _ (cc) (answer_next _ _ _ _ (cc) (answer_next _ _ _ _ long (answer_none _))) in
+    let zero : lowest_of tests ≡ 0 = sym (answer_number _ tests) ∙ sym (ap number_of given) in
     record {
-      given = scored_is _ z c.grade-g.ensures;
+      given = given;
       means_rest = (
-        length_front a.means.now c.grade-g.new.means n c.grade-g.auto.means,
-        lent_rest c.grade-g.new.means a.means.now n _ h c.grade-g.auto.means c.sampled_cells-n.ensures.0,
+        length_front a.means.now c.grade.new.means n.result c.grade.auto.means,
+        lent_rest c.grade.new.means a.means.now n.result _ h c.grade.auto.means n.ensures.0,
       );
-      untouched = λ u. absurd (omega (arith, z));
+      untouched = λ u. absurd (omega (arith, zero));
     }

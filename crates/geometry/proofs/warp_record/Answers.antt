@@ -1,49 +1,30 @@
 -- `geometry::warp_record` meets its contract. Assumes nothing.
-use Prim.Native.Nat.{◌*◌}
-use mathlib.Core.Path.{◌≡◌, ap, ◌∙◌}
-use lib.ListN.{length}
-use mathlib.Core.Bool.{false, not}
-use lib.Dec.{eqb}
-use borrow.Author.Tests.{eqb-true, eq-eqb, ne_eqb, not-false}
+use mathlib.Core.Path.{sym, ap, ◌∙◌}
+use mathlib.Core.Bool.{not}
+use borrow.Author.Tests.{eq-eqb, ne_eqb}
+use Rattle.std.proofs.lemmas.Result.{err_from_is_err_and}
 use Rattle.frame.specs.Image.{image}
+use Rattle.frame.specs.declared.refusals.Refusal.TheVariants.{Unscored}
+use Rattle.frame.proofs.Given.{positive}
 use Rattle.frame.proofs.Lowest.{lowest_first, lowest_next, lowest_none}
-use Rattle.frame.proofs.Held.{frame_held, capture_held}
-use Rattle.geometry.specs.Promises.{warp_tests, canonical_wrong, record_tests}
-use Rattle.geometry.proofs.Given.{record_refused, record_accepted}
+use Rattle.geometry.proofs.Given.{record_refused, record_accepted, by_warp, by_grade, warpable}
 use Rattle.geometry.proofs.warp_record.Goals as goal
 
-pub returns-then-frame_outside : goal.returns-then-frame_outside
-unfolding record_tests warp_tests
-returns-then-frame_outside c = record_refused (image _ _ _) _ _ _ 0 (lowest_first 1 _ _ (cc))
-
-pub returns-then-capture_wrong : goal.returns-then-capture_wrong
-unfolding record_tests warp_tests
-returns-then-capture_wrong c = record_refused (image _ _ _) _ _ _ 1 (lowest_next 1 _ _ (cc) ∙ lowest_first 2 _ _ (cc))
-
-pub canonical_wrong-requires : goal.canonical_wrong-requires
-canonical_wrong-requires c = frame_held _ (cc)
-
-pub returns-then-canonical_wrong : goal.returns-then-canonical_wrong
-unfolding record_tests warp_tests canonical_wrong
-returns-then-canonical_wrong c = record_refused (image _ _ _) _ _ _ 3 (lowest_next 1 _ _ (cc) ∙ lowest_next 2 _ _ (cc) ∙ lowest_first 4 _ _ (cc))
+pub returns-in_err-warp_refused : goal.returns-in_err-warp_refused
+returns-in_err-warp_refused c =
+    let p = err_from_is_err_and c.from_residual.result c.from_residual.ensures.1 in
+    rw (p.1, p.2) (record_refused (image _ _ _) _ _ _ _ (by_warp _ _ _ _ _ c.in_err-warp_refused.ensures (positive _)))
 
 pub returns-then-kept-ne0 : goal.returns-then-kept-ne0
-unfolding record_tests warp_tests canonical_wrong
-returns-then-kept-ne0 c = record_refused (image _ _ _) _ _ _ 15 (lowest_next 1 _ _ (cc) ∙ lowest_next 2 _ _ (cc) ∙ lowest_next 4 _ _ (cc) ∙ lowest_first 16 _ _ (ap not (ne_eqb _ 0 c.if-kept-ne0.true)))
+returns-then-kept-ne0 c =
+    record_refused (image _ _ _) _ _ _ Unscored
+    (sym (by_grade _ _ _ _ (sym c.in_ok-warp_refused.ensures) ∙ lowest_first Unscored _ _ (ap not (ne_eqb _ 0 c.if-kept-ne0.true))))
 
 pub warp-requires : goal.warp-requires
-warp-requires c =
-    let a = c.args in
-    let e : not (eqb (length a.canonical.now) (3 * a.frame.width * a.frame.height)) ≡ false = cc in
-    (capture_held (image _ _ _) (cc), frame_held _ (cc), eqb-true _ _ (not-false _ e))
+warp-requires c = warpable (image _ _ _) _ c.args.canonical.now (sym c.in_ok-warp_refused.ensures)
 
 pub returns : goal.returns
-unfolding record_tests warp_tests canonical_wrong
 returns c =
-    record_accepted (image _ _ _) _ _ _ _ _ _
-    (lowest_next 1 _ _ (cc)
-    ∙ lowest_next 2 _ _ (cc)
-    ∙ lowest_next 4 _ _ (cc)
-    ∙ lowest_next 16 _ _ (ap not (eq-eqb _ 0 c.if-kept-ne0.false))
-    ∙ lowest_none)
-    c.fit-fit.ensures c.warp.ensures.0 c.warp.ensures.1
+    record_accepted (image _ _ _) _ _ _
+    (by_grade _ _ _ _ (sym c.in_ok-warp_refused.ensures) ∙ lowest_next Unscored _ _ (ap not (eq-eqb _ 0 c.if-kept-ne0.false)) ∙ lowest_none)
+    c.fit.ensures c.warp.ensures.0 c.warp.ensures.1

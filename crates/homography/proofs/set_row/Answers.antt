@@ -1,17 +1,17 @@
--- `set_row` meets its contract. The loop's invariant: the row is set up to j. Assumes nothing.
-use Prim.Native.Nat.{◌-◌}
+-- `set_row` meets its contract. Assumes nothing.
+use mathlib.Core.Path.{◌≡◌, ap, ◌∙◌}
+use Prim.Native.Nat.{◌+◌, ◌*◌, ◌-◌}
 use native.Mathlib.Omega.{arith}
-use borrow.Author.Rules.{rules}
-use Rattle.base.proofs.Turns.{turns_begin, turns_step, turns_end}
+use mathlib.Core.List.{◌++◌}
+use lib.ListN.{take, drop}
 use Rattle.homography.specs.Inner.{row_set}
 use Rattle.homography.proofs.set_row.Goals as goal
 
-pub loop-j-init : goal.loop-j-init
-loop-j-init c = (turns_begin _ _, search rules)
-
-pub loop-j-preserved : goal.loop-j-preserved
-loop-j-preserved c = (turns_step _ _ _ c.loop-j.invariant.0, omega arith)
-
 pub returns : goal.returns
 unfolding row_set
-returns c = turns_end _ _ _ _ c.loop-j.invariant.0 (omega arith)
+returns c =
+    let a = c.args in
+    let front = take (a.r * 9) a.a.now in
+    let rest = drop (a.r * 9) a.a.now in
+    let e : a.r * 9 + 9 - a.r * 9 ≡ 9 = omega arith in
+    ap (λ x. front ++ (x ++ drop (a.r * 9 + 9 - a.r * 9) rest)) c.copy_from_slice.ensures.after ∙ ap (λ n. front ++ (a.row ++ drop n rest)) e

@@ -1,118 +1,108 @@
 -- `merge::merge_books` meets its contract. Assumes nothing.
 use borrow.Author.Tests.{ltb-false}
 use native.Mathlib.Omega.{arith}
-use mathlib.Core.Bool.{false, ◌||◌}
+use mathlib.Core.Bool.{Bool, false, ◌||◌}
 use mathlib.Core.List.{List, ◌++◌}
 use mathlib.Core.Path.{◌≡◌, refl, sym, ap, ap₂, subst, ◌∙◌}
 use Prim.Native.Nat.{ℕ, ◌≤◌}
 use lib.Dec.{ltb}
 use lib.ListN.{length, take, drop}
 use lib.Seq.{take_at}
+use Rattle.std.specs.Prelude.{Ok, Err}
+use Rattle.std.proofs.lemmas.Result.{err_from_is_err_and}
 use Rattle.base.proofs.Tests.{or_left, or_right}
-use Rattle.frame.specs.Refusals.{lowest_of}
-use Rattle.frame.specs.declared.Number.TheVariants as N
-use Rattle.frame.proofs.Given.{number_given, number_accepted}
+use Rattle.frame.specs.Refusals.{lowest_of, answer_for}
+use Rattle.frame.specs.declared.refusals.Refusal.{Refusal}
 use Rattle.book.specs.Layout.{book_length}
-use Rattle.merge.specs.Merged.{Joined, joined_book, size, differs}
+use Rattle.book.proofs.Tested.{none_holds, some_holds}
+use Rattle.merge.specs.Merged.{Accepted, Joined, joined_book, size, differs}
 use Rattle.merge.specs.Promises.{merge_tests, Merging}
-use Rattle.merge.specs.Steps.{Mergeable}
 use Rattle.merge.proofs.Books.{whole}
 use Rattle.merge.proofs.Joining.{agreed, joined_is, joined_long}
-use Rattle.merge.proofs.Refusing.{both_give, short_gives, unjoined_gives, none_gives}
+use Rattle.merge.proofs.Refusing.{accepted_book, first_gives, second_gives, short_gives, unjoined_gives, none_gives}
 use Rattle.merge.proofs.merge_books.Goals as goal
 
 -- ---- a refusal, and an acceptance
 
-refusal : (a b t : List ℕ) (n : ℕ) → n ≡ lowest_of (merge_tests a b t) → (n ≡ 0 → ⊥) → Merging a b t t (N.Refused n)
-refusal a b t n e h =
+refusal : (a b t : List ℕ) {r : Refusal} → Err r ≡ answer_for (merge_tests a b t) (book_length (size a b)) → Merging a b t t (Err r)
+refusal a b t e =
+    let z : 1 ≤ lowest_of (merge_tests a b t) = some_holds (merge_tests a b t) (book_length (size a b)) (sym e) in
     record {
-      given = number_given _ _ n e h;
-      accepted = λ z. absurd (h (e ∙ z));
-      means = λ z. absurd (h (e ∙ z));
+      given = e;
+      accepted = λ n. absurd (omega arith);
+      means = λ n. absurd (omega arith);
       refused = λ _. refl;
     }
 
-acceptance : (a b t t' : List ℕ) → Mergeable a b → book_length (size a b) ≤ length t → (differs a b || ltb 4294967295 (book_length (size a b))) ≡ false
-    → t' ≡ joined_book a b ++ drop (book_length (size a b)) t → Merging a b t t' (N.Is (book_length (size a b)))
-acceptance a b t t' m h e w =
-    let A = m.first_accepted in
-    let B = m.second_accepted in
-    let z = none_gives a b t A B h e in
+acceptance : (a b t t' : List ℕ) → Accepted a → Accepted b → book_length (size a b) ≤ length t → (differs a b || ltb 4294967295 (book_length (size a b))) ≡ false
+    → t' ≡ joined_book a b ++ drop (book_length (size a b)) t → Merging a b t t' (Ok (book_length (size a b)))
+acceptance a b t t' A B h e w =
+    let given = none_gives (book_length (size a b)) a b t A B h e in
+    let z : lowest_of (merge_tests a b t) ≡ 0 = none_holds (merge_tests a b t) (book_length (size a b)) (sym given) in
     let few : book_length (size a b) ≤ 4294967295 = ltb-false 4294967295 (book_length (size a b)) (or_right (differs a b) _ e) in
     let front : take (book_length (size a b)) t' ≡ joined_book a b = ap (take (book_length (size a b))) w ∙ take_at (joined_book a b) _ (book_length (size a b)) (joined_long a b A B) in
     record {
-      given = number_accepted _ _ z;
+      given = given;
       accepted = λ _. w;
       means = λ _. subst (Joined a b) (sym front) (joined_is a b A B (omega arith) (agreed a b A B (or_left (differs a b) _ e)));
-      refused = λ r. absurd (omega (arith, z));
+      refused = λ r. absurd (omega arith);
     }
 
-pub returns-then-number-ne0 : goal.returns-then-number-ne0
-returns-then-number-ne0 c = let r = c.refused-number in refusal _ _ _ _ (both_give _ _ _ _ r.ensures.0 c.if-number-ne0.true) c.if-number-ne0.true
+pub returns-in_err-accepted : goal.returns-in_err-accepted
+returns-in_err-accepted c =
+    let p = err_from_is_err_and c.from_residual.result c.from_residual.ensures.1 in
+    rw (p.1, p.2) (refusal _ _ _ (first_gives _ _ _ _ c.in_err-accepted.ensures.given))
 
-pub plan_of-p-requires : goal.plan_of-p-requires
-plan_of-p-requires c =
-    let accepted : Mergeable c.args.first.now c.args.second.now = c.refused-number.ensures.1 c.if-number-ne0.false in
-    accepted
+pub returns-in_err-accepted-2 : goal.returns-in_err-accepted-2
+returns-in_err-accepted-2 c =
+    let r = c.from_residual-in_err-accepted-2 in
+    let p = err_from_is_err_and r.result r.ensures.1 in
+    rw (p.1, p.2) (refusal _ _ _ (second_gives _ _ _ _ (accepted_book _ c.in_ok-accepted.ensures.given) c.in_err-accepted-2.ensures.given))
 
-pub overflow_mul-length : goal.overflow_mul-length
-overflow_mul-length c = omega (arith, c.plan_of-p.ensures.2)
-
-pub overflow_add-length : goal.overflow_add-length
-overflow_add-length c = omega (arith, c.plan_of-p.ensures.2)
+pub plan_of-plan-requires : goal.plan_of-plan-requires
+plan_of-plan-requires c = record { first_accepted = accepted_book _ c.in_ok-accepted.ensures.given; second_accepted = accepted_book _ c.in_ok-accepted-2.ensures.given }
 
 pub returns-then-target-length : goal.returns-then-target-length
 returns-then-target-length c =
-    let accepted : Mergeable c.args.first.now c.args.second.now = c.refused-number.ensures.1 c.if-number-ne0.false in
-    let p = c.plan_of-p.ensures in
-    let m = accepted in
-    refusal _ _ _ 3 (short_gives _ _ _ m.first_accepted m.second_accepted (omega (arith, c.if-target-length.true, p.0))) (λ e. omega arith)
+    let p = c.plan_of-plan.ensures in
+    let A = accepted_book _ c.in_ok-accepted.ensures.given in
+    let B = accepted_book _ c.in_ok-accepted-2.ensures.given in
+    refusal _ _ _ (short_gives _ _ _ _ A B (omega (arith, c.if-target-length.true, p.0)))
 
-pub returns-then-p-too_long : goal.returns-then-p-too_long
-returns-then-p-too_long c =
-    let tested : let s = c.args in
-    (c.plan_of-p.result.differs || c.too_long.result)
-    ≡ (differs s.first.now s.second.now || ltb 4294967295 (book_length (size s.first.now s.second.now))) = let p = c.plan_of-p.ensures in ap₂ ◌||◌ p.1 (c.too_long.ensures ∙ ap (λ n. ltb 4294967295 (book_length n)) p.0) in
-    let room : let s = c.args in book_length (size s.first.now s.second.now) ≤ length s.target.now = omega (arith, c.if-target-length.false, c.plan_of-p.ensures.0) in
-    let accepted : Mergeable c.args.first.now c.args.second.now = c.refused-number.ensures.1 c.if-number-ne0.false in
-    let m = accepted in
-    refusal _ _ _ 18 (unjoined_gives _ _ _ m.first_accepted m.second_accepted (room) (sym (tested) ∙ c.if-p-too_long.true)) (λ e. omega arith)
+-- the code's test, and the tests'
+tested : (a b : List ℕ) (n : ℕ) (d l : Bool) {t : Bool} → n ≡ size a b → d ≡ differs a b → l ≡ ltb 4294967295 (book_length n) → (d || l) ≡ t
+    → (differs a b || ltb 4294967295 (book_length (size a b))) ≡ t
+tested a b n d l e f g h = sym (ap₂ ◌||◌ f (g ∙ ap (λ n. ltb 4294967295 (book_length n)) e)) ∙ h
+
+pub returns-then-plan-too_long : goal.returns-then-plan-too_long
+returns-then-plan-too_long c =
+    let p = c.plan_of-plan.ensures in
+    let A = accepted_book _ c.in_ok-accepted.ensures.given in
+    let B = accepted_book _ c.in_ok-accepted-2.ensures.given in
+    refusal _ _ _ (unjoined_gives _ _ _ _ A B (omega (arith, c.if-target-length.false, p.0)) (tested _ _ _ _ _ p.0 p.1 c.too_long.ensures c.if-plan-too_long.true))
 
 pub put_joined-requires : goal.put_joined-requires
 put_joined-requires c =
-    let tested : let s = c.args in
-    (c.plan_of-p.result.differs || c.too_long.result)
-    ≡ (differs s.first.now s.second.now || ltb 4294967295 (book_length (size s.first.now s.second.now))) = let p = c.plan_of-p.ensures in ap₂ ◌||◌ p.1 (c.too_long.ensures ∙ ap (λ n. ltb 4294967295 (book_length n)) p.0) in
-    let few : let s = c.args in
-    (differs s.first.now s.second.now || ltb 4294967295 (book_length (size s.first.now s.second.now))) ≡ false = sym (tested) ∙ c.if-p-too_long.false in
-    let room : let s = c.args in book_length (size s.first.now s.second.now) ≤ length s.target.now = omega (arith, c.if-target-length.false, c.plan_of-p.ensures.0) in
-    let accepted : Mergeable c.args.first.now c.args.second.now = c.refused-number.ensures.1 c.if-number-ne0.false in
-    let p = c.plan_of-p.ensures in
-    let m = accepted in
-    let s = c.args in
-    let a = s.first.now in
-    let b = s.second.now in
-    let f : book_length (size a b) ≤ 4294967295 = ltb-false 4294967295 (book_length (size a b)) (or_right (differs a b) _ (few)) in (
-      record { first_whole = whole _ m.first_accepted; second_whole = whole _ m.second_accepted },
+    let a = c.args.first.now in
+    let b = c.args.second.now in
+    let p = c.plan_of-plan.ensures in
+    let few = tested a b _ _ _ p.0 p.1 c.too_long.ensures c.if-plan-too_long.false in
+    let f : book_length (size a b) ≤ 4294967295 = ltb-false 4294967295 (book_length (size a b)) (or_right (differs a b) _ few) in (
+      record { first_whole = whole _ (accepted_book _ c.in_ok-accepted.ensures.given); second_whole = whole _ (accepted_book _ c.in_ok-accepted-2.ensures.given) },
       p.0,
-      omega (arith, p.0, room),
-      omega (arith, p.0, f),
+      omega arith,
+      omega (arith, p.0),
     )
 
 pub returns : goal.returns
 returns c =
-    let tested : let s = c.args in
-    (c.plan_of-p.result.differs || c.too_long.result)
-    ≡ (differs s.first.now s.second.now || ltb 4294967295 (book_length (size s.first.now s.second.now))) = let p = c.plan_of-p.ensures in ap₂ ◌||◌ p.1 (c.too_long.ensures ∙ ap (λ n. ltb 4294967295 (book_length n)) p.0) in
-    let few : let s = c.args in
-    (differs s.first.now s.second.now || ltb 4294967295 (book_length (size s.first.now s.second.now))) ≡ false = sym (tested) ∙ c.if-p-too_long.false in
-    let room : let s = c.args in book_length (size s.first.now s.second.now) ≤ length s.target.now = omega (arith, c.if-target-length.false, c.plan_of-p.ensures.0) in
-    let accepted : Mergeable c.args.first.now c.args.second.now = c.refused-number.ensures.1 c.if-number-ne0.false in
-    let p = c.plan_of-p.ensures in
-    let s = c.args in
-    let a = s.first.now in
-    let b = s.second.now in
-    let n = c.plan_of-p.result.count in
-    let w = c.put_joined.ensures ∙ ap (λ k. joined_book a b ++ drop (book_length k) s.target.now) p.0 in
-    subst (λ k. Merging a b s.target.now c.put_joined.new.target (N.Is (book_length k))) {x = size a b} {y = n} (sym p.0)
-    (acceptance a b _ _ (accepted) (room) (few) w)
+    let a = c.args.first.now in
+    let b = c.args.second.now in
+    let t = c.args.target.now in
+    let p = c.plan_of-plan.ensures in
+    let A = accepted_book _ c.in_ok-accepted.ensures.given in
+    let B = accepted_book _ c.in_ok-accepted-2.ensures.given in
+    let few = tested a b _ _ _ p.0 p.1 c.too_long.ensures c.if-plan-too_long.false in
+    let w = c.put_joined.ensures ∙ ap (λ k. joined_book a b ++ drop (book_length k) t) p.0 in
+    subst (λ k. Merging a b t c.put_joined.new.target (Ok (book_length k))) {x = size a b} {y = c.plan_of-plan.result.count} (sym p.0)
+    (acceptance a b _ _ A B (omega (arith, c.if-target-length.false, p.0)) few w)

@@ -1,28 +1,21 @@
 -- `page::candidate_page` meets its contract. Assumes nothing.
 use native.Mathlib.Omega.{arith}
-use mathlib.Core.Path.{◌≡◌, refl, sym, ap, ◌∙◌}
-use Rattle.frame.specs.Refusals.{verdict_of, lowest_of}
-use Rattle.frame.proofs.Given.{refused_is, verdict_accepted}
+use mathlib.Core.Path.{refl}
+use Rattle.std.proofs.lemmas.Result.{err_from_is_err_and}
+use Rattle.frame.proofs.Given.{positive}
 use Rattle.page.proofs.candidate_page.Goals as goal
 
-pub returns-then-number-ne0 : goal.returns-then-number-ne0
-returns-then-number-ne0 c =
-    let r = c.refused-number in
-    record {
-      given = refused_is r.result c.if-number-ne0.true ∙ ap verdict_of r.ensures.0;
-      accepted = λ e. absurd (c.if-number-ne0.true (r.ensures.0 ∙ e));
-      refused = λ _. refl;
-    }
+pub returns-in_err-refused : goal.returns-in_err-refused
+returns-in_err-refused c =
+    let p = err_from_is_err_and c.from_residual.result c.from_residual.ensures.1 in
+    let e = c.in_err-refused.ensures.lowest in
+    let some = positive c.in_err-refused.field-0.0 in
+    rw (p.1, p.2) (record { given = e; accepted = λ z. absurd (omega (arith, e, z)); refused = λ _. refl })
 
 pub put_lines-requires : goal.put_lines-requires
-put_lines-requires c = c.refused-number.ensures.1 c.if-number-ne0.false
+put_lines-requires c = c.in_ok-refused.ensures.fitting
 
 pub returns : goal.returns
 returns c =
-    let r = c.refused-number in
-    let z : lowest_of _ ≡ 0 = sym r.ensures.0 ∙ c.if-number-ne0.false in
-    record {
-      given = verdict_accepted _ z;
-      accepted = λ _. c.put_lines.ensures;
-      refused = λ h. absurd (omega (arith, z));
-    }
+    let e = c.in_ok-refused.ensures.lowest in
+    record { given = e; accepted = λ _. c.put_lines.ensures; refused = λ h. absurd (omega (arith, e)) }

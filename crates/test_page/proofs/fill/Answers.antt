@@ -1,6 +1,6 @@
 -- A turn writes the next.
-use Rattle.std.proofs.Common.{◌≡◌, arith}
-use Rattle.base.proofs.Plane.{filled_begin, filled_step, filled_end}
+use Rattle.std.proofs.Common.{◌≡◌}
+use Rattle.base.proofs.Plane.{filled_begin, filled_step}
 use Rattle.test_page.specs.Calls.{float_for}
 use Rattle.test_page.proofs.fill.Goals as goal
 
@@ -12,6 +12,3 @@ loop-k-preserved c =
     let l = c.loop-k in
     let e : c.double.result ≡ float_for c.args.words.now l.k = cc in
     filled_step _ _ l.k _ l.invariant e
-
-pub returns : goal.returns
-returns c = filled_end _ _ _ _ c.loop-k.invariant (omega arith)

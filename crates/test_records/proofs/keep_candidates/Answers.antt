@@ -9,7 +9,7 @@ unfolding of_int of_bits
 loop-i-init c = filled_begin _ _
 
 pub loop-i-preserved : goal.loop-i-preserved
-loop-i-preserved c = c.stored_candidate-next.ensures ∙ filled_step _ _ _ _ c.loop-i.invariant refl
+loop-i-preserved c = c.store_candidate.ensures ∙ filled_step _ _ _ _ c.loop-i.invariant refl
 
 pub returns : goal.returns
 returns c = filled_end _ _ _ _ c.loop-i.invariant (omega arith)

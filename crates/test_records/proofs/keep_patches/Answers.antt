@@ -7,7 +7,7 @@ pub loop-j-init : goal.loop-j-init
 loop-j-init c = filled_begin _ _
 
 pub loop-j-preserved : goal.loop-j-preserved
-loop-j-preserved c = c.stored_patch-next.ensures ∙ filled_step _ _ _ _ c.loop-j.invariant refl
+loop-j-preserved c = c.store_patch.ensures ∙ filled_step _ _ _ _ c.loop-j.invariant refl
 
 pub returns : goal.returns
 returns c = filled_end _ _ _ _ c.loop-j.invariant (omega arith)

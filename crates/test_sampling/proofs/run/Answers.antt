@@ -3,8 +3,5 @@ use Rattle.std.proofs.Common.{sym, arith}
 use Rattle.std.proofs.lemmas.List.{length-take-le}
 use Rattle.test_sampling.proofs.run.Goals as goal
 
-pub slice_bounds-refusals-end : goal.slice_bounds-refusals-end
-slice_bounds-refusals-end c = sym (length-take-le 60 c.args.b.now (omega arith))
-
-pub slice_bounds-places-end : goal.slice_bounds-places-end
-slice_bounds-places-end c = sym (length-take-le 60 c.args.b.now (omega arith))
+pub slice_bounds-picture-end : goal.slice_bounds-picture-end
+slice_bounds-picture-end c = sym (length-take-le 60 c.args.b.now (omega arith))

@@ -3,12 +3,8 @@ use Rattle.book.specs.Layout.{grade_at}
 use Rattle.book.specs.Promises.{grade_held}
 use Rattle.base.specs.Loops.{every}
 use mathlib.Core.Bool.{true}
-use Prim.Native.Nat.{◌≤◌, ◌-◌}
 use mathlib.Core.Path.{◌≡◌}
 use Rattle.book.proofs.tests.grades_held.Given as goal
 
 abbrev pub invariant-loop-j : goal.invariant-loop-j
-invariant-loop-j l = (every l.j (λ i. grade_held (grade_at l.heads i)) ≡ true) × (l.j ≤ l.count)
-
-abbrev pub decreases-loop-j : goal.decreases-loop-j
-decreases-loop-j l = l.count - l.j
+invariant-loop-j l = every l.j (λ i. grade_held (grade_at l.heads i)) ≡ true

@@ -2,12 +2,8 @@
 use Rattle.book.specs.Promises.{record_held}
 use Rattle.base.specs.Loops.{every}
 use mathlib.Core.Bool.{true}
-use Prim.Native.Nat.{◌≤◌, ◌-◌}
 use mathlib.Core.Path.{◌≡◌}
 use Rattle.book.proofs.tests.records_held.Given as goal
 
 abbrev pub invariant-loop-j : goal.invariant-loop-j
-invariant-loop-j l = (every l.j (record_held l.book) ≡ true) × (l.j ≤ l.count)
-
-abbrev pub decreases-loop-j : goal.decreases-loop-j
-decreases-loop-j l = l.count - l.j
+invariant-loop-j l = every l.j (record_held l.book) ≡ true

@@ -12,21 +12,20 @@ tested : (x s : Float) (b : Bool) → x ≡ d64 78 100 → le x s ≡ b → enou
 unfolding enough
 tested x s b t e = ap (λ z. le z s) (sym t) ∙ e
 
+pub returns-then-not-shaped : goal.returns-then-not-shaped
+returns-then-not-shaped c =
+    let a = c.args in
+    ring_unshaped _ _ a.w a.h a.blob (sym c.shaped.ensures ∙ c.if-not-shaped.true)
+
 pub returns-then-score : goal.returns-then-score
 unfolding of_bits of_int d64 round
 returns-then-score c =
     let a = c.args in
-    ring_passed _ _ a.w a.h a.blob _ _ _ (sym c.shaped.ensures
-    ∙ c.if-shaped.true) c.verify_bullseye-score.ensures (tested _ _ _ refl
-    c.if-score.true) c.center.ensures c.size.ensures
+    ring_passed _ _ a.w a.h a.blob _ _ _ (sym c.shaped.ensures ∙ c.if-not-shaped.false) c.verify_bullseye-score.ensures
+    (tested _ _ _ refl c.if-score.true) c.center.ensures c.size.ensures
 
 pub returns-else-score : goal.returns-else-score
 unfolding of_bits of_int d64 round
 returns-else-score c =
     let a = c.args in
-    ring_low _ _ a.w a.h a.blob _ (sym c.shaped.ensures ∙ c.if-shaped.true) c.verify_bullseye-score.ensures (tested _ _ _ refl c.if-score.false)
-
-pub returns-else-shaped : goal.returns-else-shaped
-returns-else-shaped c =
-    let a = c.args in
-    ring_unshaped _ _ a.w a.h a.blob (sym c.shaped.ensures ∙ c.if-shaped.false)
+    ring_low _ _ a.w a.h a.blob _ (sym c.shaped.ensures ∙ c.if-not-shaped.false) c.verify_bullseye-score.ensures (tested _ _ _ refl c.if-score.false)

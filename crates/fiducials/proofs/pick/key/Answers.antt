@@ -1,16 +1,19 @@
 -- `fiducials::pick::key` meets its contract. Assumes nothing.
-use native.Mathlib.Omega.{arith}
-use Rattle.fiducials.proofs.Answering.{key_tl, key_tr, key_br, key_bl}
+use Rattle.fiducials.specs.Answers.{key_of}
 use Rattle.fiducials.proofs.pick.key.Goals as goal
 
-pub returns-in-0 : goal.returns-in-0
-returns-in-0 c = key_tl _ _ c.in-0.is
+pub returns-in-TL : goal.returns-in-TL
+unfolding key_of
+returns-in-TL c = rw c.in-TL.is
 
-pub returns-in-1 : goal.returns-in-1
-returns-in-1 c = key_tr _ _ c.in-1.is
+pub returns-in-TR : goal.returns-in-TR
+unfolding key_of
+returns-in-TR c = rw c.in-TR.is
 
-pub returns-in-2 : goal.returns-in-2
-returns-in-2 c = key_br _ _ c.in-2.is
+pub returns-in-BR : goal.returns-in-BR
+unfolding key_of
+returns-in-BR c = rw c.in-BR.is
 
-pub returns-in_default : goal.returns-in_default
-returns-in_default c = key_bl _ _ (λ e. omega (arith, c.in_default, e)) (λ e. omega (arith, c.in_default, e)) (λ e. omega (arith, c.in_default, e))
+pub returns-in-BL : goal.returns-in-BL
+unfolding key_of
+returns-in-BL c = rw c.in-BL.is

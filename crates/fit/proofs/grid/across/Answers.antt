@@ -1,6 +1,5 @@
 -- `fit::grid::across` meets its contract. Assumes nothing.
 use native.Mathlib.Omega.{arith}
-use Rattle.frame.specs.Frame.{cols}
 use Rattle.fit.specs.Grid.{across}
 use Rattle.fit.proofs.Walks.{cols_most}
 use mathlib.Core.Path.{ap}

@@ -1,6 +1,5 @@
 -- `fit::grid::down` meets its contract. Assumes nothing.
 use native.Mathlib.Omega.{arith}
-use Rattle.frame.specs.Frame.{rows}
 use Rattle.fit.specs.Grid.{down}
 use Rattle.fit.proofs.Walks.{rows_most}
 use mathlib.Core.Path.{ap}

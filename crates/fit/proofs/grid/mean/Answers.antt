@@ -1,25 +1,20 @@
 -- `fit::grid::mean` meets its contract. Assumes nothing.
 use lib.Ieee.{of_int, of_bits}
+use lib.ListN.{length}
 use Rattle.fit.specs.Grid.{mean}
 use Rattle.float.specs.Floats.{f64, sum_of, ◌⊘◌}
 use Rattle.base.proofs.Turns.{turns_begin, turns_step, turns_end}
-use Rattle.base.proofs.Floats.{held64}
-use borrow.Author.Rules.{rules}
 use native.Mathlib.Omega.{arith}
-use Prim.Native.Nat.{◌-◌}
 use mathlib.Core.Path.{ap}
 use Rattle.fit.proofs.grid.mean.Goals as goal
 
-pub loop-i-init : goal.loop-i-init
+pub loop-x-init : goal.loop-x-init
 unfolding of_int of_bits
-loop-i-init c = (turns_begin _ _, search rules)
+loop-x-init c = turns_begin _ _
 
-pub loop-i-preserved : goal.loop-i-preserved
-loop-i-preserved c = (turns_step _ _ _ c.loop-i.invariant.0, omega arith)
-
-pub int_to_float-result : goal.int_to_float-result
-int_to_float-result c = held64 _ (search rules)
+pub loop-x-preserved : goal.loop-x-preserved
+loop-x-preserved c = turns_step _ _ _ c.loop-x.invariant
 
 pub returns : goal.returns
 unfolding mean sum_of
-returns c = ap (λ s. s ⊘ f64 c.args.n) (turns_end _ _ _ _ c.loop-i.invariant.0 (omega arith))
+returns c = ap (λ s. s ⊘ f64 (length c.args.a.now)) (turns_end _ _ _ _ c.loop-x.invariant (omega arith))

@@ -1,12 +1,7 @@
 -- `fit::grid::past` meets its contract. Assumes nothing.
 use mathlib.Core.Path.{refl}
-use native.Mathlib.Omega.{arith}
 use lib.Ieee.{of_bits, of_int}
-use Rattle.base.proofs.Floats.{held64}
 use Rattle.fit.proofs.grid.past.Goals as goal
-
-pub int_to_float-result : goal.int_to_float-result
-int_to_float-result c = held64 _ (omega arith)
 
 pub returns : goal.returns
 unfolding of_bits of_int

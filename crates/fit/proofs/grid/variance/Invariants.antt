@@ -2,12 +2,8 @@
 use Rattle.fit.specs.Grid.{listed}
 use Rattle.float.specs.Floats.{f64, add_at, ◌⊖◌, squared}
 use Rattle.base.specs.Loops.{turns}
-use Prim.Native.Nat.{◌≤◌, ◌-◌}
 use mathlib.Core.Path.{◌≡◌}
 use Rattle.fit.proofs.grid.variance.Given as goal
 
-abbrev pub invariant-loop-i : goal.invariant-loop-i
-invariant-loop-i l = (l.sum ≡ turns l.i (add_at (λ j. squared (listed l.a j ⊖ l.m))) (f64 0)) × (l.i ≤ l.n)
-
-abbrev pub decreases-loop-i : goal.decreases-loop-i
-decreases-loop-i l = l.n - l.i
+abbrev pub invariant-loop-x : goal.invariant-loop-x
+invariant-loop-x l = l.sum ≡ turns l.x-index (add_at (λ j. squared (listed l.a j ⊖ l.m))) (f64 0)

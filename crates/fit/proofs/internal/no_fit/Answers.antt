@@ -7,4 +7,4 @@ use Rattle.fit.proofs.internal.no_fit.Goals as goal
 
 pub returns : goal.returns
 unfolding of_int of_bits
-returns c = ap (λ (z : Homography). record { h = z; radial = record { k = f64 0; cx = f64 0; cy = f64 0; norm = f64 1 } }) c.identity-h.ensures
+returns c = ap (λ (z : Homography). record { h = z; radial = record { k = f64 0; cx = f64 0; cy = f64 0; norm = f64 1 } }) c.identity.ensures

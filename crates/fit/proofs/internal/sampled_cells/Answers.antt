@@ -7,13 +7,10 @@ use Prim.Native.Nat.{◌*◌}
 use mathlib.Core.Path.{ap, ◌∙◌}
 use Rattle.fit.proofs.internal.sampled_cells.Goals as goal
 
-pub overflow_mul-result : goal.overflow_mul-result
-overflow_mul-result c = record { fits = omega (arith, product_le c.down-down.result c.across-across.result 1366 1366 (omega arith) (omega arith)) }
-
 pub returns : goal.returns
 unfolding sampled_cells
 returns c = (
-  ap (λ z. z * c.across-across.result) c.down-down.ensures.0 ∙ ap (λ z. down c.args.frame * z)
-      c.across-across.ensures.0,
-  product_le c.down-down.result c.across-across.result 1366 1366 (omega arith) (omega arith),
+  ap (λ z. z * c.across.result) c.down.ensures.0 ∙ ap (λ z. down c.args.frame * z)
+      c.across.ensures.0,
+  product_le c.down.result c.across.result 1366 1366 (omega arith) (omega arith),
 )

@@ -1,10 +1,10 @@
 -- `fit::internal::unfitted` meets its contract. Assumes nothing.
+use Rattle.std.specs.Prelude.{Err}
 use Rattle.fit.specs.Fits.{unfitted}
-use Rattle.frame.specs.declared.Verdict.TheVariants.{Refused}
 use Rattle.fit.specs.declared.GeometryFit.{GeometryFit}
 use mathlib.Core.Path.{ap}
 use Rattle.fit.proofs.internal.unfitted.Goals as goal
 
 pub returns : goal.returns
 unfolding unfitted
-returns c = ap (λ (z : GeometryFit). record { verdict = Refused c.args.number; fit = z }) c.no_fit-fit.ensures
+returns c = ap (λ (z : GeometryFit). record { verdict = Err c.args.refusal; fit = z }) c.no_fit.ensures

@@ -8,4 +8,4 @@ pub returns : goal.returns
 unfolding fit_of
 returns c =
     let l = c.args.l.now in
-    ap (λ (h : Homography). record { h = h; radial = record { k = at l 9; cx = at l 10; cy = at l 11; norm = at l 12 } }) c.matrix_of-h.ensures
+    ap (λ (h : Homography). record { h = h; radial = record { k = at l 9; cx = at l 10; cy = at l 11; norm = at l 12 } }) c.matrix_of.ensures

@@ -1,18 +1,13 @@
 -- `geometry::internal::warp` meets its contract. Assumes nothing.
-use Prim.Native.Nat.{◌≤◌, ◌+◌, ◌*◌, ◌-◌}
+use Prim.Native.Nat.{◌+◌, ◌*◌}
 use mathlib.Core.Path.{◌≡◌}
-use lib.ListN.{length}
 use Rattle.base.specs.Loops.{turns, filled}
 use Rattle.frame.specs.Image.{image, byte_of}
 use Rattle.geometry.specs.Warp.{reading, row_beyond}
 use Rattle.geometry.proofs.internal.warp.Given as goal
 
 abbrev pub invariant-loop-y : goal.invariant-loop-y
-invariant-loop-y l =
-    (l.canonical ≡ filled (byte_of l.frame.width (reading (image l.w l.h l.capture) l.fit)) (l.y * l.size) l.initial.canonical)
-    × (l.y ≤ l.height)
-    × (length l.canonical ≡ length l.initial.canonical)
-    × (l.count ≡ turns l.y (λ i n. n + row_beyond (image l.w l.h l.capture) l.frame l.fit i) 0)
-
-abbrev pub decreases-loop-y : goal.decreases-loop-y
-decreases-loop-y l = l.height - l.y
+invariant-loop-y l = record {
+  written : l.canonical ≡ filled (byte_of l.frame.width (reading (image l.w l.h l.capture) l.fit)) (l.y * l.size) l.initial.canonical;
+  counted : l.count ≡ turns l.y (λ i n. n + row_beyond (image l.w l.h l.capture) l.frame l.fit i) 0;
+}

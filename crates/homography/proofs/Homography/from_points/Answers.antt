@@ -1,18 +1,14 @@
 -- `Homography::from_points` meets its contract, by whether `solve8` found the unknowns. Assumes nothing.
-use mathlib.Core.Path.{ap, ◌∙◌}
-use Rattle.frame.specs.declared.Verdict.TheVariants.{Refused}
-use Rattle.homography.specs.declared.Homography.{Homography}
-use Rattle.homography.proofs.Ends.{points_found, points_refused}
+use mathlib.Core.Path.{sym, ap, ◌∙◌}
+use Rattle.homography.specs.Inner.{unknowns}
+use Rattle.homography.proofs.Ends.{matrix, points_found, points_refused}
 use Rattle.homography.proofs.Homography.from_points.Goals as goal
 
-pub returns-then-s : goal.returns-then-s
-returns-then-s c =
-    let s = c.solve8-s.ensures in
-    let e = c.equations-a.ensures in
-    points_found _ _ _ _ _ e s.0 _ c.if-s.true s.1 (c.from_mat-h.ensures ∙ c.with_one-m.ensures)
+pub returns-in-Some : goal.returns-in-Some
+returns-in-Some c =
+    c.found.ensures
+    ∙ ap matrix (c.from_mat.ensures ∙ c.with_one.ensures)
+    ∙ points_found _ _ _ (sym c.in-Some.is ∙ c.solve8.ensures ∙ ap unknowns c.equations.ensures)
 
-pub returns : goal.returns
-returns c =
-    let s = c.solve8-s in
-    ap (λ (m : Homography). record { verdict = Refused 10; h = m }) c.identity-h.ensures
-    ∙ points_refused _ _ _ s.result.h _ c.equations-a.ensures s.ensures.0 c.if-s.false
+pub returns-in-None : goal.returns-in-None
+returns-in-None c = c.refused.ensures ∙ points_refused _ _ (sym c.in-None.is ∙ c.solve8.ensures ∙ ap unknowns c.equations.ensures)

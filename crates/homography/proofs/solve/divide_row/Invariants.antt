@@ -1,13 +1,9 @@
 -- `divide_row` meets its contract. The loop's invariant: the entries from col up to j are divided. Assumes nothing.
 use mathlib.Core.Path.{◌≡◌}
-use Prim.Native.Nat.{◌≤◌, ◌-◌}
 use Rattle.base.specs.Loops.{between}
 use Rattle.homography.specs.Arithmetic.{rounded}
 use Rattle.homography.specs.Elimination.{divide_at}
 use Rattle.homography.proofs.solve.divide_row.Given as goal
 
 abbrev pub invariant-loop-j : goal.invariant-loop-j
-invariant-loop-j l = (l.a ≡ between l.col l.j (divide_at rounded l.r l.d) l.initial.a) × (l.col ≤ l.j) × (l.j ≤ 9)
-
-abbrev pub decreases-loop-j : goal.decreases-loop-j
-decreases-loop-j l = 9 - l.j
+invariant-loop-j l = l.a ≡ between l.col l.j (divide_at rounded l.r l.d) l.initial.a

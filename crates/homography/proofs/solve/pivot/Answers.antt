@@ -1,6 +1,5 @@
 -- `pivot` meets its contract. The loop's invariant: piv is the pivot among the rows from col up to r. Assumes nothing.
 use mathlib.Core.Path.{◌≡◌, sym, ap, ◌∙◌}
-use Prim.Native.Nat.{◌≤◌, ◌+◌, ◌-◌}
 use native.Mathlib.Omega.{arith}
 use lib.Ieee.{lt}
 use Rattle.base.proofs.Turns.{between_begin, between_step, between_end}
@@ -12,7 +11,7 @@ use Rattle.homography.proofs.solve.pivot.Goals as goal
 use Rattle.homography.proofs.solve.pivot.Goals.{then-abs, else-abs}
 
 pub loop-r-init : goal.loop-r-init
-loop-r-init c = (between_begin _ _ _, omega arith, omega arith, omega arith)
+loop-r-init c = (between_begin _ _ _, omega arith)
 
 pub loop-r-preserved : goal.loop-r-preserved
 loop-r-preserved c =
@@ -23,12 +22,10 @@ loop-r-preserved c =
     let test : lt (abs_of (entry rounded a c.loop-r.piv col)) (abs_of (entry rounded a c.loop-r.r col)) ≡ lt y.result x.result =
     ap (λ z. lt z (abs_of (entry rounded a c.loop-r.r col))) (sym y.ensures) ∙ ap (lt y.result) (sym x.ensures)
     in
-    let step = between_step _ _ _ c.loop-r.r c.loop-r.invariant.1 c.loop-r.invariant.0 in
-    let low : col + 1 ≤ c.loop-r.r + 1 = omega arith in
-    let high : c.loop-r.r + 1 ≤ 8 = omega arith in
+    let step = between_step _ _ _ c.loop-r.r c.loop-r.auto.r c.loop-r.invariant.0 in
     elim c.if-abs.branch [
-      | then-abs w ↦ (w.piv-is ∙ better_yes a col c.loop-r.r c.loop-r.piv (test ∙ w.if-abs.true) ∙ step, low, high, omega arith)
-      | else-abs w ↦ (w.piv-is ∙ better_no a col c.loop-r.r c.loop-r.piv (test ∙ w.if-abs.false) ∙ step, low, high, omega arith)
+      | then-abs w ↦ (w.piv-is ∙ better_yes a col c.loop-r.r c.loop-r.piv (test ∙ w.if-abs.true) ∙ step, omega arith)
+      | else-abs w ↦ (w.piv-is ∙ better_no a col c.loop-r.r c.loop-r.piv (test ∙ w.if-abs.false) ∙ step, omega arith)
     ]
 
 pub returns : goal.returns

@@ -1,13 +1,10 @@
 -- `pivot` meets its contract. The loop's invariant: piv is the pivot among the rows from col up to r. Assumes nothing.
 use mathlib.Core.Path.{◌≡◌}
-use Prim.Native.Nat.{◌≤◌, ◌<◌, ◌+◌, ◌-◌}
+use Prim.Native.Nat.{◌<◌, ◌+◌}
 use Rattle.base.specs.Loops.{between}
 use Rattle.homography.specs.Arithmetic.{rounded}
 use Rattle.homography.specs.Elimination.{better}
 use Rattle.homography.proofs.solve.pivot.Given as goal
 
 abbrev pub invariant-loop-r : goal.invariant-loop-r
-invariant-loop-r l = (l.piv ≡ between (l.col + 1) l.r (better rounded l.a l.col) l.col) × (l.col + 1 ≤ l.r) × (l.r ≤ 8) × (l.piv < 8)
-
-abbrev pub decreases-loop-r : goal.decreases-loop-r
-decreases-loop-r l = 8 - l.r
+invariant-loop-r l = (l.piv ≡ between (l.col + 1) l.r (better rounded l.a l.col) l.col) × (l.piv < 8)

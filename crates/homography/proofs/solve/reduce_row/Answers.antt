@@ -1,6 +1,5 @@
 -- `reduce_row` meets its contract. The loop's invariant: the entries from col up to j are reduced. Assumes nothing.
 use mathlib.Core.Path.{◌∙◌}
-use Prim.Native.Nat.{◌-◌}
 use native.Mathlib.Omega.{arith}
 use lib.Ieee.{of_bits, of_int}
 use borrow.Author.Tests.{eq-eqb, ne_eqb}
@@ -18,16 +17,16 @@ unfolding reduced of_bits of_int
 returns-then-f c = pick_yes _ _ _ c.if-f.true ∙ pick_no _ _ _ (ne_eqb _ _ c.if-r-col.false)
 
 pub loop-j-init : goal.loop-j-init
-loop-j-init c = (between_begin _ _ _, omega arith, omega arith)
+loop-j-init c = between_begin _ _ _
 
 pub loop-j-preserved : goal.loop-j-preserved
 loop-j-preserved c =
     let l = c.loop-j in
-    (between_step _ _ _ l.j l.invariant.1 l.invariant.0, omega arith, omega arith)
+    between_step _ _ _ l.j l.auto.j l.invariant
 
 pub returns : goal.returns
 unfolding reduced of_bits of_int
 returns c =
-    between_end _ _ _ _ _ c.loop-j.invariant.0 (omega arith)
+    between_end _ _ _ _ _ c.loop-j.invariant (omega arith)
     ∙ pick_no _ _ _ c.if-f.false
     ∙ pick_no _ _ _ (ne_eqb _ _ c.if-r-col.false)

@@ -2,6 +2,7 @@
 use native.Mathlib.Omega.{arith}
 use mathlib.Core.Path.{sym, ap, subst, ◌∙◌}
 use mathlib.Core.Bool.{not}
+use mathlib.Core.Logic.{⊎_elim}
 use Rattle.merge.specs.Steps.{Held, clash}
 use Rattle.merge.proofs.plan.clash.Goals as goal
 
@@ -12,11 +13,7 @@ same_record-requires c =
 
 pub returns-in-First : goal.returns-in-First
 unfolding clash
-returns-in-First c = sym (ap (clash _ _ _) c.in-First.is)
-
-pub returns-in-Second : goal.returns-in-Second
-unfolding clash
-returns-in-Second c = sym (ap (clash _ _ _) c.in-Second.is)
+returns-in-First c = ⊎_elim (λ e. sym (ap (clash _ _ _) e)) (λ e. sym (ap (clash _ _ _) e)) c.in-First.is
 
 pub returns-in-Both : goal.returns-in-Both
 unfolding clash

@@ -1,8 +1,6 @@
 -- `merge::walk::pass` meets its contract. Assumes nothing.
 use mathlib.Core.Path.{sym, ap}
 use Rattle.merge.specs.Steps.{passed}
-use Prim.Native.Nat.{◌-◌}
-use mathlib.Core.Path.{sym, ap}
 use Rattle.merge.proofs.walk.pass.Goals as goal
 
 pub returns-in-First : goal.returns-in-First

@@ -1,32 +1,27 @@
 -- `page::rows::every_printable` meets its contract. Assumes nothing.
-use borrow.Author.Rules.{rules}
-use borrow.Author.Tests.{not-true, not-false}
 use native.Mathlib.Omega.{arith}
 use mathlib.Core.Path.{◌≡◌, sym, ap, ◌∙◌}
-use mathlib.Core.Bool.{true, not}
-use Prim.Native.Nat.{◌-◌}
 use Rattle.page.specs.Text.{row_at}
 use Rattle.page.specs.Promises.{row_printable}
 use Rattle.base.proofs.Every.{every_begin, every_more, every_stops, every_end}
 use Rattle.page.proofs.rows.every_printable.Goals as goal
 
 pub loop-i-init : goal.loop-i-init
-loop-i-init c = (every_begin _, search rules)
+loop-i-init c = every_begin _
 
 pub returns-then-not-row_printable : goal.returns-then-not-row_printable
 returns-then-not-row_printable c =
-    let printed : row_printable (row_at c.args.candidates.now c.loop-i.i) ≡ c.row_printable.result = sym (c.row_printable.ensures ∙ ap row_printable c.row_at-row.ensures) in
     let k = c.loop-i in
-    sym (every_stops _ k.i c.args.count (omega arith) (printed ∙ not-true _ (ap not c.if-not-row_printable.true)))
+    let printed : row_printable (row_at c.args.candidates.now k.i) ≡ c.row_printable.result = sym (c.row_printable.ensures ∙ ap row_printable c.row_at.ensures) in
+    sym (every_stops _ k.i c.args.count (omega arith) (printed ∙ c.if-not-row_printable.true))
 
 pub loop-i-preserved : goal.loop-i-preserved
 loop-i-preserved c =
-    let printed : row_printable (row_at c.args.candidates.now c.loop-i.i) ≡ c.row_printable.result = sym (c.row_printable.ensures ∙ ap row_printable c.row_at-row.ensures) in
     let k = c.loop-i in
-    (every_more _ k.i k.invariant.0 (printed ∙ not-false _ (ap not c.if-not-row_printable.false)), omega arith)
+    let printed : row_printable (row_at c.args.candidates.now k.i) ≡ c.row_printable.result = sym (c.row_printable.ensures ∙ ap row_printable c.row_at.ensures) in
+    every_more _ k.i k.invariant (printed ∙ c.if-not-row_printable.false)
 
 pub returns : goal.returns
 returns c =
     let k = c.loop-i in
-    let e : k.i ≡ c.args.count = omega arith in
-    sym (every_end _ k.i _ k.invariant.0 e)
+    sym (every_end _ k.i _ k.invariant (omega arith))

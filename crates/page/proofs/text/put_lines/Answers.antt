@@ -1,5 +1,4 @@
 -- `page::text::put_lines` meets its contract. Assumes nothing.
-use borrow.Author.Rules.{rules}
 use mathlib.Core.Path.{subst}
 use borrow.Rule.Slice.PartMut.{mid_len, same_len_mid}
 use Rattle.page.specs.Steps.{AllNarrow}
@@ -14,7 +13,7 @@ use lib.ListN.{length}
 use Rattle.page.proofs.text.put_lines.Goals as goal
 
 pub loop-i-init : goal.loop-i-init
-loop-i-init c = (page_begin _ _, search rules, refl)
+loop-i-init c = record { written = page_begin _ _; long = refl }
 
 pub put_line-requires : goal.put_line-requires
 put_line-requires c =
@@ -29,18 +28,17 @@ loop-i-preserved c =
     let k = c.loop-i in
     let x = c.put_line in
     let row = c.row_at-row in
-    let r : 37 * k.i + 37 ≤ length k.page = omega (arith, c.requires.held) in (
-      page_next c.args.candidates.now c.args.page.now k.page x.new.line k.i k.invariant.0
-          (x.ensures ∙ ap (line_of (k.i + 1)) row.ensures),
-      omega arith,
-      same_len_mid (37 * k.i) (37 * k.i + 37 - 37 * k.i) k.page x.new.line x.auto.line ∙ k.invariant.2,
-    )
+    let r : 37 * k.i + 37 ≤ length k.page = omega (arith, c.requires.held) in
+    record {
+      written = page_next c.args.candidates.now c.args.page.now k.page x.new.line k.i k.invariant.written (x.ensures ∙ ap (line_of (k.i + 1)) row.ensures);
+      long = same_len_mid (37 * k.i) (37 * k.i + 37 - 37 * k.i) k.page x.new.line x.auto.line ∙ k.invariant.long;
+    }
 
 pub shape_of-page : goal.shape_of-page
-shape_of-page c = c.loop-i.invariant.2
+shape_of-page c = c.loop-i.invariant.long
 
 pub returns : goal.returns
 returns c =
     let k = c.loop-i in
     let e : k.i ≡ c.args.count = omega arith in
-    page_end c.args.candidates.now c.args.page.now k.page k.i c.args.count k.invariant.0 e
+    page_end c.args.candidates.now c.args.page.now k.page k.i c.args.count k.invariant.written e

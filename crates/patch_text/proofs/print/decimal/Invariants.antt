@@ -1,5 +1,5 @@
 -- `patch_text::print::decimal` meets its contract. Assumes nothing.
-use Prim.Native.Nat.{◌-◌, ◌≤◌}
+use Prim.Native.Nat.{◌≤◌}
 use mathlib.Core.Path.{◌≡◌}
 use lib.ListN.{length}
 use Rattle.patch_text.proofs.Numbers.{Digits}

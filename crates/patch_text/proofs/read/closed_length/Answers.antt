@@ -14,8 +14,8 @@ returns-then-text-n-eq10 c =
     let b = c.args.text.now in
     pick_yes (eqb (get_or b (length b - 1) 0) feed) (length b) (length b + 1) (eq-eqb (get_or b (length b - 1) 0) feed c.if-text-n-eq10.true)
 
-pub returns : goal.returns
+pub returns-else-text-n-eq10 : goal.returns-else-text-n-eq10
 unfolding closed_length
-returns c =
+returns-else-text-n-eq10 c =
     let b = c.args.text.now in
     pick_no (eqb (get_or b (length b - 1) 0) feed) (length b) (length b + 1) (ne_eqb (get_or b (length b - 1) 0) feed c.if-text-n-eq10.false)

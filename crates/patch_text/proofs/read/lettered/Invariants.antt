@@ -1,13 +1,9 @@
--- `patch_text::read::lettered` meets its contract. Assumes nothing.
-use Prim.Native.Nat.{◌-◌, ◌≤◌}
+-- Each byte before stands where it may. Assumes nothing.
 use mathlib.Core.Path.{◌≡◌}
 use mathlib.Core.Bool.{true}
-use lib.ListN.{length}
-use Rattle.patch_text.specs.Steps.{placed_at, all}
+use Rattle.base.specs.Loops.{every}
+use Rattle.patch_text.specs.Steps.{placed_at}
 use Rattle.patch_text.proofs.read.lettered.Given as goal
 
 abbrev pub invariant-loop-k : goal.invariant-loop-k
-invariant-loop-k l = (all (placed_at l.text l.w) l.k ≡ true) × (l.k ≤ length l.text)
-
-abbrev pub decreases-loop-k : goal.decreases-loop-k
-decreases-loop-k l = length l.text - l.k
+invariant-loop-k l = every l.k (placed_at l.text l.w) ≡ true

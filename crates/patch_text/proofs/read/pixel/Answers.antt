@@ -12,8 +12,8 @@ returns-then-byte-eq35 c =
     let a = c.args in
     pick_yes (eqb a.byte hash) 1 0 (eq-eqb a.byte hash c.if-byte-eq35.true)
 
-pub returns : goal.returns
+pub returns-else-byte-eq35 : goal.returns-else-byte-eq35
 unfolding pixel_of
-returns c =
+returns-else-byte-eq35 c =
     let a = c.args in
     pick_no (eqb a.byte hash) 1 0 (ne_eqb a.byte hash c.if-byte-eq35.false)

@@ -9,4 +9,4 @@ use Rattle.search.proofs.internal.begin.Goals as goal
 
 pub returns : goal.returns
 unfolding beginning of_int of_bits
-returns c = ap (λ (z : Stage). record { number = 0; entry = 0; center = f64 0; stage = z; ended = false }) c.begun-stage.ensures
+returns c = ap (λ (z : Stage). record { number = 0; entry = 0; center = f64 0; stage = z; ended = false }) c.begun.ensures

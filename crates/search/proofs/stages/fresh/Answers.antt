@@ -4,12 +4,11 @@ use lib.Ieee.{eq}
 use Rattle.base.proofs.Every.{every_begin, every_more, every_stops, every_end}
 use Rattle.search.specs.Stages.{k_at, fresh}
 use native.Mathlib.Omega.{arith}
-use Prim.Native.Nat.{◌-◌}
 use mathlib.Core.Path.{◌≡◌, sym, ap}
 use Rattle.search.proofs.stages.fresh.Goals as goal
 
 pub loop-earlier-init : goal.loop-earlier-init
-loop-earlier-init c = (every_begin _, omega arith)
+loop-earlier-init c = every_begin _
 
 pub returns-then-k_at-k : goal.returns-then-k_at-k
 unfolding fresh
@@ -24,11 +23,11 @@ loop-earlier-preserved c =
     let a = c.args in
     let l = c.loop-earlier in
     let e : eq (k_at a.number a.center l.earlier) (k_at a.number a.center a.entry) ≡ false = cc in
-    (every_more _ l.earlier l.invariant.0 (ap not e), omega arith)
+    every_more _ l.earlier l.invariant (ap not e)
 
 pub returns : goal.returns
 unfolding fresh
 returns c =
     let a = c.args in
     let l = c.loop-earlier in
-    (sym (ap (λ b. cond b 1 0) (every_end _ l.earlier a.entry l.invariant.0 (omega arith))), omega arith)
+    (sym (ap (λ b. cond b 1 0) (every_end _ l.earlier a.entry l.invariant (omega arith))), omega arith)

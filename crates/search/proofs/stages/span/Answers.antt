@@ -1,19 +1,20 @@
 -- `search::stages::span` meets its contract. Assumes nothing.
 use lib.Ieee.{of_bits, round}
 use Rattle.base.proofs.Arith.{from_two}
+use native.Mathlib.Omega.{arith}
 use Rattle.search.specs.Stages.{span}
 use Rattle.float.specs.Floats.{d64}
 use mathlib.Core.Path.{refl, sym, ap}
 use Rattle.search.proofs.stages.span.Goals as goal
 
-pub returns-then-number-eq0 : goal.returns-then-number-eq0
+pub returns-in-0 : goal.returns-in-0
 unfolding span d64 of_bits round
-returns-then-number-eq0 c = sym (ap span c.if-number-eq0.true)
+returns-in-0 c = sym (ap span c.in-0.is)
 
-pub returns-then-number-eq1 : goal.returns-then-number-eq1
+pub returns-in-1 : goal.returns-in-1
 unfolding span d64 of_bits round
-returns-then-number-eq1 c = sym (ap span c.if-number-eq1.true)
+returns-in-1 c = sym (ap span c.in-1.is)
 
-pub returns : goal.returns
+pub returns-in_default : goal.returns-in_default
 unfolding span d64 of_bits round
-returns c = from_two span _ (λ m. refl) _ c.if-number-eq0.false c.if-number-eq1.false
+returns-in_default c = from_two span _ (λ m. refl) _ (omega arith) (omega arith)

@@ -1,21 +1,28 @@
 -- `windows::tally::meet` meets its contract. Assumes nothing.
-use native.Mathlib.Omega.{arith}
-use Prim.Native.Nat.{◌≤◌}
-use mathlib.Core.Bool.{Bool, cond}
-use mathlib.Core.Path.{sym, subst}
-use Rattle.base.proofs.Pick.{cond_elim}
-use Rattle.windows.specs.Steps.{met}
+use Prim.Native.Nat.{ℕ, ◌+◌}
+use mathlib.Core.Path.{◌≡◌, refl, ap, ◌∙◌}
+use mathlib.Core.Bool.{Bool, true, false, cond}
+use mir.Val.{bool_byte}
+use Rattle.std.specs.Prelude.{Some, None}
+use Rattle.std.specs.Bool.{then_some}
+use Rattle.std.specs.Option.{option_or}
+use Rattle.windows.specs.Rectangles.{touches}
+use Rattle.windows.specs.Steps.{near, nearer, met}
 use Rattle.windows.proofs.tally.meet.Goals as goal
 
-most_one : (t : Bool) → cond t 1 0 ≤ 1
-most_one t = cond_elim (λ z. z ≤ 1) t 1 0 (λ e. omega arith) (λ e. omega arith)
+as_number : (b : Bool) → bool_byte b ≡ cond b 1 0
+as_number true = refl
+as_number false = refl
 
-pub overflow_add-result : goal.overflow_add-result
-overflow_add-result c =
-    let one_more : c.choose.result ≤ 1 =
-    subst (λ z. z ≤ 1) (sym c.choose.ensures) (most_one c.touches-hit.result) in
-    omega arith
+as_option : (b : Bool) (j : ℕ) → then_some b j ≡ cond b (Some j) None
+as_option true j = refl
+as_option false j = refl
 
 pub returns : goal.returns
 unfolding met
-returns c = cc
+returns c =
+    let a = c.args in
+    let count = ap (λ b. a.t.count + bool_byte b) c.touches-touching.ensures ∙ ap (λ n. a.t.count + n) (as_number (touches a.r a.b)) in
+    let first = c.or.ensures ∙ ap (option_or a.t.first) (c.then_some.ensures ∙ ap (λ b. then_some b a.j) c.touches-touching.ensures ∙ as_option (touches a.r a.b) a.j) in
+    let nearest = c.nearer.ensures ∙ ap (λ d. nearer a.t.nearest (near a.j d)) c.distance.ensures in
+    λ i. record { count = count i; first = first i; nearest = nearest i }
