@@ -4,7 +4,9 @@ use native.Mathlib.Decide.{dec_lt}
 use native.Mathlib.Omega.{arith}
 use mathlib.Core.Path.{◌≡◌, refl, sym, ap, ◌∙◌}
 use mathlib.Core.List.{List, [], ◌∷◌, ◌++◌}
+use mathlib.Core.Logic.{◌⊎◌, ⊎_elim}
 use lib.ListN.{length, get_or}
+use Rattle.std.specs.Prelude.{Some, None}
 use Rattle.patch_text.specs.Text.{decimal}
 use Rattle.patch_text.proofs.Numbers.{spelled_last, spelled_more}
 use Rattle.checkerboard_text.specs.Steps.{Digit, Side}
@@ -50,46 +52,45 @@ decimal_same {n} {k} a b e = go (dec_lt n 10)
     go (no o) = let s = two_spelled (48 + n / 10) k b (48 + n % 10) (sym (decimal_two n (omega arith) (omega arith)) ∙ e) in omega (arith, s.1, s.2)
 
 -- ---- what the functions answer
-pub no_side : (d : List ℕ) → ((n : ℕ) → 1 ≤ n → n ≤ 64 → d ≡ decimal n → ⊥) → Side d 0
-no_side d f = record { is = λ l. absurd (omega arith); only = λ n l h e. absurd (f n l h e) }
+module _ (a : ℕ) where
+  pub one_not : Digit a None → Side (a ∷ []) None
+  one_not f n m h e = let s = one_spelled a n h e in f n s.0 s.1
 
-module _ (a x : ℕ) (d : Digit a x) where
-  pub one_not : 9 < x → Side (a ∷ []) 0
-  one_not l = no_side _ (λ n m h e. let s = one_spelled a n h e in omega (arith, d.only n s.0 s.1, s.0))
+  pub one_zero : (x : ℕ) → Digit a (Some x) → x ≡ 0 → Side (a ∷ []) None
+  one_zero x d z n m h e = let s = one_spelled a n h e in omega (arith, s.1, d.1)
 
-  pub one_is : x ≤ 9 → Side (a ∷ []) x
-  one_is l =
-      record {
-        is = λ m. (omega arith, ap (λ c. c ∷ []) (d.is (omega arith)) ∙ sym (decimal_one x (omega arith)));
-        only = λ n m h e. let s = one_spelled a n h e in d.only n s.0 s.1;
-      }
+  pub one_is : (x : ℕ) → Digit a (Some x) → (x ≡ 0 → ⊥) → Side (a ∷ []) (Some x)
+  one_is x d o = (omega arith, omega (arith, d.0), ap (λ c. c ∷ []) d.1 ∙ sym (decimal_one x d.0))
 
-  module _ (b y : ℕ) (c : Digit b y) where
-    -- the number that the two bytes spell has these digits
-    two_are : (n : ℕ) → n ≤ 64 → a ∷ b ∷ [] ≡ decimal n → (10 ≤ n) × (n / 10 ≡ x) × (n % 10 ≡ y)
-    two_are n h e = let s = two_spelled a n h b e in (s.0, d.only (n / 10) (omega arith) s.1, c.only (n % 10) (omega arith) s.2)
+  module _ (b : ℕ) where
+    pub tens_not : Digit a None → Side (a ∷ b ∷ []) None
+    tens_not f n m h e = let s = two_spelled a n h b e in f (n / 10) (omega arith) s.1
 
-    pub two_not : ((x ≡ 0 → ⊥) → x ≤ 6 → y ≤ 9 → 10 * x + y ≤ 64 → ⊥) → Side (a ∷ b ∷ []) 0
-    two_not f = no_side _ (λ n m h e. let s = two_are n h e in f (λ z. omega (arith, s.0, s.1)) (omega (arith, s.1)) (omega (arith, s.2)) (omega (arith, s.1, s.2)))
+    pub ones_not : Digit b None → Side (a ∷ b ∷ []) None
+    ones_not f n m h e = let s = two_spelled a n h b e in f (n % 10) (omega arith) s.2
 
-    pub two_is : (x ≡ 0 → ⊥) → x ≤ 6 → y ≤ 9 → 10 * x + y ≤ 64 → Side (a ∷ b ∷ []) (10 * x + y)
-    two_is o l k h =
-        record {
-          is = λ m. (h, spells);
-          only = λ n m j e. let s = two_are n j e in omega (arith, s.1, s.2);
-        }
-      where
-        tens : (10 * x + y) / 10 ≡ x
-        tens = omega arith
+    module _ (x y : ℕ) (d : Digit a (Some x)) (c : Digit b (Some y)) where
+      -- the number that the two bytes spell has these digits
+      two_are : (n : ℕ) → n ≤ 64 → a ∷ b ∷ [] ≡ decimal n → (10 ≤ n) × (n ≡ 10 * x + y)
+      two_are n h e = let s = two_spelled a n h b e in (s.0, omega (arith, s.1, s.2, d.1, c.1))
 
-        ones : (10 * x + y) % 10 ≡ y
-        ones = omega arith
+      pub two_not : ((x ≡ 0) ⊎ (64 < 10 * x + y)) → Side (a ∷ b ∷ []) None
+      two_not f n m h e = let s = two_are n h e in ⊎_elim (λ z. omega (arith, s.0, s.1, c.0)) (λ z. omega (arith, s.1)) f
 
-        spells : a ∷ b ∷ [] ≡ decimal (10 * x + y)
-        spells =
-            ap (λ z. z ∷ b ∷ []) (d.is (omega arith) ∙ ap (λ z. 48 + z) (sym tens))
-            ∙ ap (λ z. (48 + (10 * x + y) / 10) ∷ z ∷ []) (c.is (omega arith) ∙ ap (λ z. 48 + z) (sym ones))
-            ∙ sym (decimal_two (10 * x + y) (omega arith) (omega arith))
+      pub two_is : (x ≡ 0 → ⊥) → 10 * x + y ≤ 64 → Side (a ∷ b ∷ []) (Some (10 * x + y))
+      two_is o h = (omega arith, h, spells)
+        where
+          tens : (10 * x + y) / 10 ≡ x
+          tens = omega (arith, c.0)
+
+          ones : (10 * x + y) % 10 ≡ y
+          ones = omega (arith, c.0)
+
+          spells : a ∷ b ∷ [] ≡ decimal (10 * x + y)
+          spells =
+              ap (λ z. z ∷ b ∷ []) (d.1 ∙ ap (λ z. 48 + z) (sym tens))
+              ∙ ap (λ z. (48 + (10 * x + y) / 10) ∷ z ∷ []) (c.1 ∙ ap (λ z. 48 + z) (sym ones))
+              ∙ sym (decimal_two (10 * x + y) (omega arith) (omega arith))
 
 -- ---- lists of one entry and of two
 pub one_entry : (d : List ℕ) → length d ≡ 1 → get_or d 0 0 ∷ [] ≡ d
@@ -104,5 +105,5 @@ two_entries (a ∷ b ∷ []) e = refl
 two_entries (a ∷ b ∷ c ∷ d) e = absurd (omega arith)
 
 -- no number of another length
-pub side_none : (d : List ℕ) → (length d ≡ 1 → ⊥) → (length d ≡ 2 → ⊥) → Side d 0
-side_none d x y = no_side d (λ n m h e. long_spelled 0 n h (λ z. x (ap length e ∙ z)) (λ z. y (ap length e ∙ z)))
+pub side_none : (d : List ℕ) → (length d ≡ 1 → ⊥) → (length d ≡ 2 → ⊥) → Side d None
+side_none d x y = (λ n m h e. long_spelled 0 n h (λ z. x (ap length e ∙ z)) (λ z. y (ap length e ∙ z)))

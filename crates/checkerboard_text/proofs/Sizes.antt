@@ -9,10 +9,11 @@ use lib.Dec.{eqb}
 use lib.ListN.{length, get_or, take, drop, length-append, length-drop, get_or-append}
 use lib.Seq.{take_at, drop_at, get_or_at, split_at, take-suc, take_all, get_or-drop}
 use borrow.Author.Tests.{eq-eqb, ne_eqb}
+use Rattle.std.specs.Prelude.{Some, None}
 use Rattle.base.proofs.Pick.{pick_yes, pick_no, cond_elim}
 use Rattle.patch_text.specs.Text.{blank, feed, decimal, field}
 use Rattle.checkerboard_text.specs.Text.{Asks}
-use Rattle.checkerboard_text.specs.Steps.{Side, blank_place, Measured}
+use Rattle.checkerboard_text.specs.Steps.{Side, blank_place}
 use Rattle.checkerboard_text.proofs.Decimals.{decimal_one, decimal_two, decimal_same}
 
 -- the digits before the letter at p, and those between it and the last byte
@@ -143,36 +144,26 @@ module _ {b : List ℕ} {w h : ℕ} (a : Asks b w h) where
   asks_middle = ap (middle b) its_place ∙ ap (λ t. middle t (length (decimal w))) its_text ∙ whole_middle (decimal w) (decimal h) blank feed
 
 -- ---- what `board_size` answers
-pub no_size : {b : List ℕ} {w h : ℕ} → ((w h : ℕ) → Asks b w h → ⊥) → w ≡ 0 → Measured b w h
-no_size f e = record { asks = λ l. absurd (omega arith); only = λ w' h' a. absurd (f w' h' a) }
+module _ {b : List ℕ} where
+  pub no_side : Side (front b (blank_place b)) None → (w h : ℕ) → Asks b w h → ⊥
+  no_side f w h a = f w a.wide a.narrow (asks_front a)
 
-module _ {b : List ℕ} {w h : ℕ} (s : Side (front b (blank_place b)) w) (t : Side (middle b (blank_place b)) h) where
-  sides_only : (w' h' : ℕ) → Asks b w' h' → (w' ≡ w) × (h' ≡ h)
-  sides_only w' h' a = (s.only w' a.wide a.narrow (asks_front a), t.only h' a.high a.low (asks_middle a))
+  pub no_other_side : Side (middle b (blank_place b)) None → (w h : ℕ) → Asks b w h → ⊥
+  no_other_side f w h a = f h a.high a.low (asks_middle a)
 
-  pub no_width : w ≡ 0 → (w' h' : ℕ) → Asks b w' h' → ⊥
-  no_width e w' h' a = omega (arith, (sides_only w' h' a).0, a.wide)
-
-  pub no_height : h ≡ 0 → (w' h' : ℕ) → Asks b w' h' → ⊥
-  no_height e w' h' a = omega (arith, (sides_only w' h' a).1, a.high)
-
-  pub size_is : 4 ≤ length b → get_or b (blank_place b) 0 ≡ blank → get_or b (length b - 1) 0 ≡ feed → (w ≡ 0 → ⊥) → (h ≡ 0 → ⊥) → Measured b w h
+  pub size_is : (w h : ℕ) → Side (front b (blank_place b)) (Some w) → Side (middle b (blank_place b)) (Some h) → 4 ≤ length b
+      → get_or b (blank_place b) 0 ≡ blank → get_or b (length b - 1) 0 ≡ feed → Asks b w h
   unfolding field
-  size_is l x y o p = record { asks = λ _. its_asks; only = sides_only }
-    where
-      its_asks : Asks b w h
-      its_asks =
-          let u = s.is (omega arith) in
-          let v = t.is (omega arith) in
-          record {
-            wide = omega arith;
-            narrow = u.0;
-            high = omega arith;
-            low = v.0;
-            text =
-                parts_join b (blank_place b) (omega (arith, (place_some b).1))
-                ∙ ap₂ ◌++◌ (ap₂ (λ d c. d ++ (c ∷ [])) u.1 x) (ap₂ (λ d c. d ++ (c ∷ [])) v.1 y);
-          }
+  size_is w h s t l x y =
+      record {
+        wide = s.0;
+        narrow = s.1;
+        high = t.0;
+        low = t.1;
+        text =
+            parts_join b (blank_place b) (omega (arith, (place_some b).1))
+            ∙ ap₂ ◌++◌ (ap₂ (λ d c. d ++ (c ∷ [])) s.2 x) (ap₂ (λ d c. d ++ (c ∷ [])) t.2 y);
+      }
 
 -- ---- a text asks for one size
 pub asks_unique : {b : List ℕ} {w h w' h' : ℕ} → Asks b w h → Asks b w' h' → (w ≡ w') × (h ≡ h')

@@ -1,23 +1,24 @@
 -- What the steps of reading do. Assumes nothing.
-use Rattle.std.specs.Prelude.{ℕ, ◌+◌, ◌≤◌, ◌<◌, ◌≡◌, cond, List, eqb, get_or}
+use Rattle.std.specs.Prelude.{ℕ, ◌+◌, ◌≤◌, ◌<◌, ◌≡◌, cond, Option, Some, None, List, eqb, get_or}
+use Rattle.patch_text.specs.declared.read.Size.{Size}
 use Rattle.patch_text.specs.Text.{blank, decimal}
 use Rattle.checkerboard_text.specs.Text.{Asks}
 
--- the byte c is the digit of r, where r is below 10, and of no other number
-pub record Digit (c r : ℕ) : Type 0 where
-  pub is : r < 10 → c ≡ 48 + r
-  pub only : (n : ℕ) → n < 10 → c ≡ 48 + n → n ≡ r
+-- the number that the byte c is the digit of, if it is one
+abbrev pub Digit : ℕ → Option ℕ → Type 0
+Digit c (Some r) = (r < 10) × (c ≡ 48 + r)
+Digit c None = (n : ℕ) → n < 10 → c ≡ 48 + n → ⊥
 
--- the digits d spell r, where r is not 0, and no other number from 1 to 64
-pub record Side (d : List ℕ) (r : ℕ) : Type 0 where
-  pub is : 1 ≤ r → (r ≤ 64) × (d ≡ decimal r)
-  pub only : (n : ℕ) → 1 ≤ n → n ≤ 64 → d ≡ decimal n → n ≡ r
+-- the number from 1 to 64 that the digits d spell, if there is one
+abbrev pub Side : List ℕ → Option ℕ → Type 0
+Side d (Some r) = (1 ≤ r) × (r ≤ 64) × (d ≡ decimal r)
+Side d None = (n : ℕ) → 1 ≤ n → n ≤ 64 → d ≡ decimal n → ⊥
 
 -- the place of the blank after a side
 unfoldable pub blank_place : List ℕ → ℕ
 blank_place b = cond (eqb (get_or b 1 0) blank) 1 2
 
--- the text b asks for w by h, where w is not 0, and for no other size
-pub record Measured (b : List ℕ) (w h : ℕ) : Type 0 where
-  pub asks : 1 ≤ w → Asks b w h
-  pub only : (w' h' : ℕ) → Asks b w' h' → (w' ≡ w) × (h' ≡ h)
+-- the size that the text b asks for, if there is one
+abbrev pub Measured : List ℕ → Option Size → Type 0
+Measured b (Some s) = Asks b s.w s.h
+Measured b None = (w h : ℕ) → Asks b w h → ⊥

@@ -18,24 +18,18 @@ pub fn answer(input: &[u8; INPUT_LENGTH], n: usize, out: &mut [u8; OUTPUT_LENGTH
     ensures answered_whole { AnsweredWhole input.now n (take result out.new) }
     ensures upper_bound { (result ≤ length out.new) × (result ≡ length (take result out.new)) }
 {
-    let mut mask = [0u8; 4096];
-    let all = &input[..];
-    answer_text(&all[..n], &mut mask, out)
+    answer_text(&input[..n], out)
 }
 
-// The same for a text that is the whole input. `mask` is work space for the largest mask.
-fn answer_text(text: &[u8], mask: &mut [u8], out: &mut [u8]) -> usize
-    requires { (4096 ≤ length mask.old) × (4160 ≤ length out.old) }
+// The same for a text that is the whole input.
+fn answer_text(text: &[u8], out: &mut [u8; OUTPUT_LENGTH]) -> usize
     ensures answered { Answered text.now (take result out.new) }
     ensures upper_bound { (result ≤ length out.new) × (result ≡ length (take result out.new)) }
 {
-    let size = read::board_size(text);
-    let w = size.w;
-    let h = size.h;
-    if w == 0 {
+    let Some(size) = read::board_size(text) else {
         return patch_text::internal::refused(out);
-    }
-    checkerboard::internal::draw(w, h, mask);
-    let n = w * h;
-    print::mask_text(&mask[..n], w, h, out)
+    };
+    let mut mask = [0u8; 64 * 64];
+    checkerboard::internal::draw(size.w, size.h, &mut mask);
+    print::mask_text(&mask[..size.w * size.h], size, out)
 }

@@ -3,31 +3,34 @@ ghost use Rattle.std.specs.Prelude.{◌≡◌, ◌+◌, ◌*◌, ◌≤◌, ◌<
 ghost use Rattle.base.specs.Loops.{by_row};
 ghost use Rattle.patch_text.specs.Text.{byte_at, mask_text};
 
-// Byte k of the text of a mask w by h.
-fn byte_at(mask: &[u8], w: usize, h: usize, k: usize) -> u8
-    requires { (w ≤ 64) × (h ≤ 64) × (length mask.now ≡ w * h) × (k < h * (w + 1)) }
-    ensures { result ≡ by_row (w + 1) (byte_at w mask.now) k }
+use patch_text::internal::Size;
+
+// Byte k of the text of a mask.
+fn byte_at(mask: &[u8], size: Size, k: usize) -> u8
+    requires { (size.w ≤ 64) × (size.h ≤ 64) × (length mask.now ≡ size.w * size.h) × (k < size.h * (size.w + 1)) }
+    ensures { result ≡ by_row (size.w + 1) (byte_at size.w mask.now) k }
 {
-    let x = k % (w + 1);
-    if x == w {
+    let x = k % (size.w + 1);
+    if x == size.w {
         return b'\n';
     }
-    let i = k / (w + 1) * w + x;
-    if mask[i] == 0 {
-        return b'.';
+    let y = k / (size.w + 1);
+    if mask[y * size.w + x] == 0 {
+        b'.'
+    } else {
+        b'#'
     }
-    b'#'
 }
 
-// Writes the lines of a mask w by h.
-pub fn mask_text(mask: &[u8], w: usize, h: usize, out: &mut [u8]) -> usize
-    requires { (w ≤ 64) × (h ≤ 64) × (length mask.now ≡ w * h) × (4160 ≤ length out.old) }
-    ensures { (take result out.new ≡ mask_text w h mask.now)
+// Writes the lines of a mask.
+pub fn mask_text(mask: &[u8], size: Size, out: &mut [u8]) -> usize
+    requires { (size.w ≤ 64) × (size.h ≤ 64) × (length mask.now ≡ size.w * size.h) × (4160 ≤ length out.old) }
+    ensures { (take result out.new ≡ mask_text size.w size.h mask.now)
         × (result ≤ length out.new) }
 {
-    let n = h * (w + 1);
+    let n = size.h * (size.w + 1);
     for k in 0..n {
-        out[k] = byte_at(mask, w, h, k);
+        out[k] = byte_at(mask, size, k);
     }
     n
 }

@@ -1,9 +1,10 @@
 -- The decimal digits of a number; what was written, one piece after another. Assumes nothing.
-use Prim.Native.Nat.{ℕ, zero, suc, ◌+◌, ◌-◌, ◌*◌, ◌/◌, ◌%◌, ◌^◌, ◌≤◌, ◌<◌}
-use native.Mathlib.Nat.{pow-suc, pow-zero}
+use Prim.Native.Nat.{ℕ, suc, ◌+◌, ◌*◌, ◌/◌, ◌%◌, ◌^◌, ◌≤◌, ◌<◌}
+use Rattle.std.specs.Fmt as Fmt
+use Rattle.std.proofs.lemmas.Fmt.{decimal_from_appends, length-decimal-le}
 use Rattle.base.specs.Loops.{table, joined}
 use native.Mathlib.Omega.{arith}
-use mathlib.Core.Path.{◌≡◌, sym, ap, ap₂, subst, ◌∙◌}
+use mathlib.Core.Path.{◌≡◌, sym, ap, ◌∙◌}
 use mathlib.Core.List.{List, [], ◌∷◌, ◌++◌, append_assoc, append-nil}
 use lib.Dec.{ltb}
 use borrow.Author.Tests.{lt-ltb, le-ltb}
@@ -11,8 +12,8 @@ use Rattle.base.proofs.Pick.{pick_yes, pick_no}
 use Rattle.base.proofs.Table.{table_more, length_table}
 use Rattle.blobs.specs.declared.Blob.{Blob}
 use native.Mathlib.Numerals.{add-one}
-use lib.ListN.{length, set, take, drop, length-set, length-drop, drop_of_length-le}
-use lib.Seq.{take_all, take-suc-set, drop-cons, drop-set-lt, get_or-set_same}
+use lib.ListN.{length, set, take}
+use lib.Seq.{take-suc-set}
 use Rattle.patch_text.specs.Text.{blank, feed, spelled, decimal, field, record_line, record_lines, patch_text}
 use Rattle.patch_text.specs.Steps.{Written}
 
@@ -26,58 +27,11 @@ module _ (k : ℕ) (n : ℕ) where
   unfolding spelled
   spelled_more l = sym (pick_no (ltb n 10) ((48 + n) ∷ []) _ (le-ltb n 10 l))
 
-drop_store : (d : List ℕ) (k x : ℕ) → k < length d → drop k (set d k x) ≡ x ∷ drop (suc k) d
-drop_store d k x l =
-    drop-cons (set d k x) k 0 (omega (arith, length-set d k x))
-    ∙ ap₂ (λ y z. y ∷ z) (get_or-set_same d k x 0 l) (drop-set-lt (suc k) d k x (omega arith))
-
--- the digits of n are those of the rest, then those that stand at the end of d
-pub record Digits (n : ℕ) (d : List ℕ) (at rest : ℕ) : Type 0 where
-  pub text : spelled at rest ++ drop at d ≡ decimal n
-  pub some : 1 ≤ at
-  pub room : rest < 10 ^ at
-  pub within : at ≤ length d
-
-pub digits_none : (n : ℕ) (d : List ℕ) → length d ≡ 20 → n < 2 ^ 64 → Digits n d 20 n
+-- so they are what std prints
+pub spelled_std : (n : ℕ) → n < 2 ^ 64 → Fmt.decimal n ≡ decimal n
 unfolding decimal
-digits_none n d e l =
-    record {
-      text = ap (λ x. spelled 20 n ++ x) (drop_of_length-le d {i = 20} (omega arith)) ∙ append-nil (spelled 20 n);
-      some = omega arith;
-      room = omega arith;
-      within = omega arith;
-    }
-
--- a number of two digits or more leaves room for the next
-more_room : (k n : ℕ) → 10 ≤ n → n < 10 ^ suc k → 1 ≤ k
-more_room zero n l h = absurd (omega (arith, pow-suc 10 zero, pow-zero 10))
-more_room (suc k) n l h = omega arith
-
-pub digits_more : (n : ℕ) (d : List ℕ) (at rest : ℕ) → 10 ≤ rest → Digits n d at rest → Digits n (set d (at - 1) (48 + rest % 10)) (at - 1) (rest / 10)
-digits_more n d zero rest l h = absurd (omega (arith, h.some))
-digits_more n d (suc k) rest l h =
-    let e : suc k - 1 ≡ k = omega arith in
-    let x : ℕ = 48 + rest % 10 in
-    subst (λ i. Digits n (set d i x) i (rest / 10)) (sym e)
-    record {
-      text =
-          ap (λ y. spelled k (rest / 10) ++ y) (drop_store d k x h.within)
-          ∙ sym (append_assoc (spelled k (rest / 10)) (x ∷ []) (drop (suc k) d))
-          ∙ ap (λ y. y ++ drop (suc k) d) (sym (spelled_more k rest l))
-          ∙ h.text;
-      some = more_room k rest l h.room;
-      room = omega (arith, h.room, pow-suc 10 k);
-      within = omega (arith, h.within, length-set d k x);
-    }
-
-pub digits_last : (n : ℕ) (d : List ℕ) (at rest : ℕ) → rest < 10 → Digits n d at rest → drop (at - 1) (set d (at - 1) (48 + rest)) ≡ decimal n
-digits_last n d zero rest l h = absurd (omega (arith, h.some))
-digits_last n d (suc k) rest l h =
-    let e : suc k - 1 ≡ k = omega arith in
-    ap (λ i. drop i (set d i (48 + rest))) e
-    ∙ drop_store d k (48 + rest) h.within
-    ∙ ap (λ y. y ++ drop (suc k) d) (sym (spelled_last k rest l))
-    ∙ h.text
+spelled_std n l =
+    sym (decimal_from_appends spelled record { one = spelled_last; more = spelled_more } 20 n l (length-decimal-le 20 n (omega arith) (omega arith) l))
 
 -- ---- lines
 pub lines_more : (l : List Blob) (b : Blob) → record_lines (l ++ (b ∷ [])) ≡ record_lines l ++ record_line b
@@ -102,10 +56,7 @@ written_field o o₁ o₂ at r s i f a b =
     let w = written_more o o₁ o₂ at r s (21 * i) 21 (joined f i) (f i) a b in
     record { text = w.text ∙ ap (λ n. take at o ++ joined f n) (sym (add-one i)); from = w.from; to = omega (arith, w.to) }
 
--- ---- a number written: the digits at the end of d, from k on
-pub digits_part : (d : List ℕ) (k : ℕ) → length d ≡ 20 → take (20 - k) (drop k d) ≡ drop k d
-digits_part d k e = take_all (20 - k) (drop k d) (omega (arith, length-drop k d))
-
+-- ---- a number written
 pub put_is : (o o₁ d : List ℕ) (at end n after : ℕ) → end < length o₁ → take end o₁ ≡ take at o ++ d → end ≡ at + length d → length d ≤ 20 → d ≡ decimal n
     → Written o (set o₁ end after) at (end + 1) 21 (field n after)
 unfolding field

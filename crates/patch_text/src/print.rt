@@ -2,7 +2,7 @@
 ghost use Rattle.std.specs.Prelude.{◌≡◌, ℕ, ◌+◌, ◌*◌, ◌≤◌, ◌<◌, length, take, drop, ◌++◌};
 ghost use Rattle.base.specs.Loops.{table};
 ghost use Rattle.blobs.specs.Patches.{record_length, patch_at};
-ghost use Rattle.patch_text.specs.Text.{decimal, field, record_line, record_lines, patch_text, refused_text};
+ghost use Rattle.patch_text.specs.Text.{field, record_line, record_lines, patch_text, refused_text};
 ghost use Rattle.patch_text.specs.Steps.{Written};
 
 use crate::read::Size;
@@ -20,31 +20,13 @@ fn copy(bytes: &[u8], out: &mut [u8], at: usize) -> usize
     end
 }
 
-// Writes a number's digits at the end of `digits`, and answers where they begin.
-fn decimal(n: u64, digits: &mut [u8]) -> usize
-    requires { length digits.old ≡ 20 }
-    ensures { (drop result digits.new ≡ decimal n) × (result ≤ 20) }
-{
-    let mut at: usize = 20;
-    let mut rest = n;
-    while rest >= 10 {
-        at -= 1;
-        digits[at] = b'0' + (rest % 10) as u8;
-        rest /= 10;
-    }
-    at -= 1;
-    digits[at] = b'0' + rest as u8;
-    at
-}
-
 // Writes a number and the letter after it.
 fn put(out: &mut [u8], at: usize, n: u64, after: u8) -> usize
     requires { at + 21 ≤ length out.old }
     ensures { Written out.old out.new at result 21 (field n after) }
 {
-    let mut digits = [0u8; 20];
-    let k = decimal(n, &mut digits);
-    let end = copy(&digits[k..], out, at);
+    let mut digits = itoa::Buffer::new();
+    let end = copy(digits.format(n).as_bytes(), out, at);
     out[end] = after;
     end + 1
 }
