@@ -1,5 +1,6 @@
 -- The four ranges of an `f64`'s pattern b, by its magnitude b % 2 ^ 63, and the pattern of the nearest `f32` in each. Assumes nothing.
-use Rattle.std.proofs.Common.{◌≡◌, ℕ, suc, ◌+◌, ◌-◌, ◌*◌, ◌/◌, ◌%◌, ◌^◌, ◌<◌, ◌≤◌, Bool, true, false, cond, not, T, leb, sym, refl, ap, ◌∙◌, subst, true≢false, inl, inr, mod-eq_of_lt, one-mul, add-one, arith, leb→le, pow_pos}
+use Rattle.std.proofs.Common.{◌≡◌, ℕ, suc, ◌+◌, ◌-◌, ◌*◌, ◌/◌, ◌%◌, ◌^◌, ◌<◌, ◌≤◌, Bool, true, false, cond, not}
+use Rattle.std.proofs.Common.{T, leb, sym, refl, ap, ◌∙◌, subst, true≢false, inl, inr, mod-eq_of_lt, one-mul, add-one, arith, leb→le, pow_pos}
 use lib.Dec.{nleb→lt}
 use lib.Pow.{pow-lt, mod-mod-pow}
 use lib.Ieee.{Float, nan, inf, fin, binary32, binary64, round, is_nan, fits, nan_bits, to_bits, of_bits}

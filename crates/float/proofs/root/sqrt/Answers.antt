@@ -41,8 +41,10 @@ module _ (x : Float) (F : fits binary64 x ≡ true) (P : lt (of_bits binary64 0)
       rooted : Rooted (to_bits binary64 x * 2 ^ (z - 11) % 2 ^ 64) (1024 - (z - 11)) x
       rooted =
           let b = to_bits binary64 x in
-          let all : Rooted (b * 2 ^ (z - 11) % 2 ^ 64) (1024 - (count_leading_zeros 64 b - 11)) x = subst (λ d. Rooted d (1024 - (count_leading_zeros 64 b - 11)) x) (sym digits) (subnormal x held over S) in
-          subst (λ n. Rooted (b * 2 ^ (z - 11) % 2 ^ 64) (1024 - (n - 11)) x) (sym Z) all
+          let g : ℕ → ℕ = λ n. 1024 - (n - 11) in
+          let all : Rooted (b * 2 ^ (z - 11) % 2 ^ 64) (g (count_leading_zeros 64 b)) x =
+          subst (λ d. Rooted d (g (count_leading_zeros 64 b)) x) (sym digits) (subnormal x held over S) in
+          subst (λ n. Rooted (b * 2 ^ (z - 11) % 2 ^ 64) (g n) x) (sym Z) all
 
 pub float_to_bits-b : goal.float_to_bits-b
 float_to_bits-b c = above_number _ (over c.args.x c.well_formed.0.1 c.if-x.true)
