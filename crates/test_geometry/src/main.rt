@@ -19,6 +19,7 @@ mod file; // file.rt: a capture file
 mod print; // print.rt: an answer's lines
 
 use console::Console;
+use frame::Refusal;
 use std::io;
 
 fn main(rt: HostRuntime) -> io::Result<()> {
@@ -84,14 +85,12 @@ fn answer(
 ) {
     let s = file::headed(head);
     print::head(console, number, s);
-    let frame = s.frame;
-    let bytes = s.bytes;
     let card: &mut [u8] = canonical;
     let r = geometry::rectify(
         capture,
         s.w,
         s.h,
-        frame,
+        s.frame,
         luma,
         integral,
         mask,
@@ -101,12 +100,12 @@ fn answer(
         candidates,
         blob_index,
         means,
-        &mut card[..bytes],
+        &mut card[..s.bytes],
     );
-    let refusal = print::answer(console, r, s, mask, patches, candidates, blob_index, card);
-    if refusal == 16 {
+    print::answer(console, r, s, mask, patches, candidates, blob_index, card);
+    if let Err(Refusal::Unscored) = r.picture.places {
         let fit = fit_geometry::fit_geometry(
-            capture, s.w, s.h, frame, luma, integral, mask, seen, waiting, patches, candidates,
+            capture, s.w, s.h, s.frame, luma, integral, mask, seen, waiting, patches, candidates,
             blob_index, means,
         );
         print::fitted(console, fit);
