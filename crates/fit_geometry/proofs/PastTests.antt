@@ -20,7 +20,7 @@ use Rattle.frame.specs.declared.Quad.{Quad}
 use Rattle.frame.specs.declared.refusals.Refusal.{Refusal}
 use Rattle.frame.specs.declared.refusals.Refusal.TheVariants as R
 use Rattle.frame.proofs.Given.{positive}
-use Rattle.candidates.specs.Areas.{Areas, lengths_of, shorter, smallest, area_short}
+use Rattle.candidates.specs.Areas.{Areas, lengths_of, shorter, smallest, area_short, picture_tests}
 use Rattle.candidates.specs.Bounds.{Ready}
 use Rattle.candidates.specs.declared.Lengths.{Lengths}
 use Rattle.candidates.proofs.Refusing.{Clear, clear, rising, upto_six, ready_of}
@@ -183,6 +183,11 @@ module _ (img : Image) (f : FrameSpec) (a b : Areas) (means : List Float) {n : c
 pub short_is : (img : Image) (f : FrameSpec) (l : Lengths) (m : ℕ) {areas means : Bool} → capture_wrong img ≡ false
     → (img.w ≤ 4096 → img.h ≤ 4096 → areas ≡ shorter l (smallest img.w img.h)) → means ≡ ltb m (sampled_cells f) → (areas || means) ≡ fit_short img f l m
 short_is img f l m d x y = let h = capture_held img d in let z = x h.w_most h.h_most in λ i. z i || y i
+
+-- the lengths that it is handed are those of the areas
+pub by_lengths : (img : Image) (f : FrameSpec) (m : ℕ) (wrong : Bool) {l l' : Lengths} {n : ℕ} → l ≡ l'
+    → n ≡ lowest_of (picture_tests img f (fit_short img f l m) wrong) → n ≡ lowest_of (picture_tests img f (fit_short img f l' m) wrong)
+by_lengths img f m wrong e h = h ∙ ap (λ (l : Lengths). lowest_of (picture_tests img f (fit_short img f l m) wrong)) e
 
 -- what a fit asks, where none of the tests of a call that is handed what it takes holds
 pub fit_room : (img : Image) (f : FrameSpec) (a : Areas) (means : List Float) (wrong : Bool) → Clear img f (fit_short img f (lengths_of a) (length means)) wrong

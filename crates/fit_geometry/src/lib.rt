@@ -47,16 +47,9 @@ pub fn fit_geometry(
         patches.new candidates.new blob_index.new)
         means.old means.new result }
 {
-    let lengths = Lengths {
-        luma: luma.len(),
-        integral: integral.len(),
-        mask: mask.len(),
-        seen: seen.len(),
-        waiting: waiting.len(),
-        patches: patches.len(),
-        candidates: candidates.len(),
-        blob_index: blob_index.len(),
-    };
+    let lengths = Lengths::of(
+        luma, integral, mask, seen, waiting, patches, candidates, blob_index,
+    );
     if let Err(refusal) = internal::refused(capture, w, h, frame, lengths, means.len()) {
         return internal::refused_by_test(refusal);
     }

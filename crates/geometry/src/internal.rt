@@ -112,7 +112,7 @@ pub fn canonical_wrong(frame: FrameSpec, n: usize) -> bool
 
 // The refusals 1, 2 and 4 of a warp.
 #[tactic(auto, using(frame::proofs::Held::frame_held), unfolding(crate::specs::Promises::warp_tests, crate::specs::Promises::canonical_wrong, frame::specs::Refusals::lowest_of))]
-pub fn warp_refused(
+pub(crate) fn warp_refused(
     capture: &[u8],
     w: usize,
     h: usize,

@@ -88,16 +88,9 @@ pub fn rectify(
         means.new canonical.new)
         result.picture result.beyond }
 {
-    let lengths = Lengths {
-        luma: luma.len(),
-        integral: integral.len(),
-        mask: mask.len(),
-        seen: seen.len(),
-        waiting: waiting.len(),
-        patches: patches.len(),
-        candidates: candidates.len(),
-        blob_index: blob_index.len(),
-    };
+    let lengths = Lengths::of(
+        luma, integral, mask, seen, waiting, patches, candidates, blob_index,
+    );
     if let Err(refusal) = refused(capture, w, h, frame, lengths, means.len(), canonical.len()) {
         return Rectified {
             picture: refused_by_test(refusal),

@@ -2,9 +2,6 @@
 use Rattle.fit_geometry.proofs.PastTests.{unsearched_is, searched_is}
 use Rattle.fit_geometry.proofs.internal.fit_picture.Goals as goal
 
-pub search_lent-stage-requires : goal.search_lent-stage-requires
-search_lent-stage-requires c = let p = c.requires in (p.0.capture, p.0.frame, p.1)
-
 pub returns-in-Err : goal.returns-in-Err
 returns-in-Err c = unsearched_is _ _ _ _ _ c.detect-found.ensures c.in-Err.is c.unsearched.ensures
 
