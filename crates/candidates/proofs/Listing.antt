@@ -24,21 +24,6 @@ use Rattle.candidates.proofs.Rules.{passes_area, ring_yes, ring_no}
 use Rattle.candidates.proofs.Sums.{ink_few, total_grows}
 
 module _ (m : List ℕ) (luma : List Float) (w h : ℕ) (t : ℕ → Blob) where
-  -- no patch yet
-  pub list_none : (c : List Float) (p : List ℕ) → CandidateList m luma w h t 0 c p c p 0
-  list_none c p =
-      record {
-        c_long = refl;
-        p_long = refl;
-        listed = λ i l. absurd (omega arith);
-        passing = λ i l. absurd (omega arith);
-        ordered = λ i j l k. absurd (omega arith);
-        every = λ j l e. absurd (omega arith);
-        records = λ i l. absurd (omega arith);
-        c_rest = refl;
-        p_rest = refl;
-      }
-
   module _ {n : ℕ} {c₀ : List Float} {p₀ : List ℕ} {c : List Float} {p : List ℕ} {k : ℕ} (H : CandidateList m luma w h t n c₀ p₀ c p k) where
     -- a patch that does not pass
     list_passed_over : passes m luma w h (t n) ≡ false → CandidateList m luma w h t (n + 1) c₀ p₀ c p k

@@ -1,18 +1,15 @@
 -- A look at the picture, from what its parts leave. Assumes nothing.
 use Prim.Native.Nat.{ℕ, ◌*◌, ◌/◌, ◌%◌, ◌≤◌, ◌<◌, min}
-use mathlib.Core.Path.{◌≡◌, refl, sym, ap, subst, ◌∙◌}
+use mathlib.Core.Path.{sym, ◌≡◌, refl, ap, subst, ◌∙◌}
 use mathlib.Core.Bool.{Bool, true, false, cond}
 use mathlib.Core.List.{List}
-use native.Mathlib.Omega.{arith}
 use lib.ListN.{length, take}
 use lib.Ieee.{Float, nan}
 use Rattle.base.specs.Loops.{filled, by_row}
 use Rattle.base.proofs.Plane.{length_filled, filled_at, filled_past, filled_is}
-use Rattle.base.proofs.Table.{length_table, table_at, take_filled}
+use Rattle.base.proofs.Table.{table_at, take_filled}
 use Rattle.frame.specs.Image.{Image}
-use Rattle.frame.specs.Refusals.{number, lowest_of}
-use Rattle.frame.specs.declared.refusals.Refusal.{Refusal}
-use Rattle.frame.proofs.Given.{positive}
+use Rattle.frame.specs.Refusals.{lowest_of}
 use Rattle.frame.specs.declared.FrameSpec.{FrameSpec}
 use Rattle.sampling.specs.Luma.{luma_at, luma_plane}
 use Rattle.mask.specs.Mask.{mask_entry, mask_plane, is_dark, radius}
@@ -23,9 +20,8 @@ use Rattle.blobs.specs.Patches.{ink, patch_at}
 use Rattle.blobs.specs.declared.Blob.{Blob}
 use Rattle.candidates.specs.Ring.{CandidateList}
 use Rattle.candidates.specs.Areas.{Areas, areas, area_short, look_tests}
-use Rattle.candidates.specs.Held.{PlanesHeld}
-use Rattle.candidates.specs.Bounds.{Listable, Ready}
-use Rattle.candidates.specs.Promises.{Looked, Listing}
+use Rattle.candidates.specs.Bounds.{Ready}
+use Rattle.candidates.specs.Promises.{Looked}
 use Rattle.candidates.proofs.Refusing.{clear, ready_of}
 
 pub ready : (img : Image) (f : FrameSpec) (a : Areas) → lowest_of (look_tests img f a) ≡ 0 → Ready img f a
@@ -38,17 +34,6 @@ ready_as d e r = rw (d, e) r
 pub looked_as : {img img' : Image} {f f' : FrameSpec} {a b : Areas} {n k waited : ℕ} → img' ≡ img → f' ≡ f → Looked img' f' a b n k waited
     → Looked img f a b n k waited
 looked_as d e l = rw (sym d, sym e) l
-
--- ---- the public function's two ends
-
-pub listing_refused : (img : Image) (f : FrameSpec) (a : Areas) (r : Refusal) → number r ≡ lowest_of (look_tests img f a) → Listing img f a a (number r) 0 0 0
-listing_refused img f a r e =
-    let some = positive r in
-    record { given = e; accepted = λ z. absurd (omega (arith, e, z)); refused = λ z. (refl, refl, refl, refl) }
-
-pub listing_found : (img : Image) (f : FrameSpec) (a b : Areas) (n k waited : ℕ) → 0 ≡ lowest_of (look_tests img f a) → Looked img f a b n k waited
-    → Listing img f a b 0 n k waited
-listing_found img f a b n k waited e l = record { given = e; accepted = λ z. l; refused = λ z. absurd (omega (arith, e, z)) }
 
 -- ---- the parts put together
 
@@ -74,49 +59,17 @@ module _ (img : Image) (f : FrameSpec) (a : Areas) (R : Ready img f a) where
   abbrev count : ℕ
   count = img.w * img.h
 
-  pub mask_front : {m : List ℕ} → m ≡ filled (mask_entry img f) count a.mask → take count m ≡ mask_plane img f
-  unfolding mask_plane
-  mask_front e = ap (take count) e ∙ take_filled (mask_entry img f) count 0 a.mask R.mask_room
+  -- the front of each plane is the picture's
+  pub record Fronts (m : List ℕ) (l : List Float) : Type 0 where
+    pub mask_is : take count m ≡ mask_plane img f
+    pub luma_is : take count l ≡ luma_plane img
 
-  pub luma_front : {l : List Float} → l ≡ filled (luma_at img) count a.luma → take count l ≡ luma_plane img
-  unfolding luma_plane
-  luma_front e = ap (take count) e ∙ take_filled (luma_at img) count nan a.luma R.luma_room
-
-  mask_long : length (mask_plane img f) ≡ count
-  unfolding mask_plane
-  mask_long = length_table (mask_entry img f) count
-
-  luma_long : length (luma_plane img) ≡ count
-  unfolding luma_plane
-  luma_long = length_table (luma_at img) count
-
-  pub planes_held : PlanesHeld img.w img.h (mask_plane img f) (luma_plane img)
-  planes_held =
+  pub fronts : {luma integral : List Float} {mask : List ℕ} → Planes img f a.luma a.integral a.mask luma integral mask → Fronts mask luma
+  unfolding mask_plane luma_plane
+  fronts P =
       record {
-        w_some = R.capture.w_least;
-        w_held = R.capture.w_most;
-        h_some = R.capture.h_least;
-        h_held = R.capture.h_most;
-        mask_long = mask_long;
-        luma_long = luma_long;
-      }
-
-  pub listable : {b : PatchAreas} {n waited : ℕ} → Labels (mask_plane img f) img.w img.h (patch_areas a.seen a.waiting a.patches) b n waited
-      → Listable img.w img.h (mask_plane img f) (luma_plane img) b.patches n a.candidates a.blob_index
-  listable L =
-      record {
-        planes = planes_held;
-        before = a.patches;
-        firsts = L.firsts;
-        patches = L.records;
-        patches_long =
-            let e1 = L.records.few in
-            let e2 = L.records.long in
-            let e3 = mask_long in
-            let e4 = R.patches_room in
-            omega arith;
-        candidates_long = R.candidates_room;
-        places_long = R.places_room;
+        mask_is = ap (take count) P.mask_is ∙ take_filled (mask_entry img f) count 0 a.mask R.mask_room;
+        luma_is = ap (take count) P.luma_is ∙ take_filled (luma_at img) count nan a.luma R.luma_room;
       }
 
   pub looked : {luma integral : List Float} {mask : List ℕ} {b : PatchAreas} {candidates : List Float} {places : List ℕ} {n k waited : ℕ}
@@ -145,11 +98,6 @@ module _ (img : Image) (f : FrameSpec) (a : Areas) (R : Ready img f a) where
 
 pub labels_as : {m m' : List ℕ} {w h : ℕ} {a b : PatchAreas} {n d : ℕ} → m ≡ m' → Labels m w h a b n d → Labels m' w h a b n d
 labels_as {w = w} {h = h} {a = a} {b = b} {n = n} {d = d} e L = subst (λ z. Labels z w h a b n d) e L
-
-pub listable_as : {m m' : List ℕ} {u u' : List Float} {w h : ℕ} {l : List ℕ} {n : ℕ} {c : List Float} {p : List ℕ} → m ≡ m' → u ≡ u'
-    → Listable w h m' u' l n c p → Listable w h m u l n c p
-listable_as {m = m} {u' = u'} {w = w} {h = h} {l = l} {n = n} {c = c} {p = p} e d L =
-    subst (λ z. Listable w h m z l n c p) (sym d) (subst (λ z. Listable w h z u' l n c p) (sym e) L)
 
 pub candidates_as : {m m' : List ℕ} {u u' : List Float} {w h : ℕ} {t : ℕ → Blob} {n : ℕ} {c : List Float} {p : List ℕ} {c' : List Float}
     {p' : List ℕ} {k : ℕ} → m ≡ m' → u ≡ u'

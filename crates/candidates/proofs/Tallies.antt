@@ -6,27 +6,12 @@ use mathlib.Core.List.{List, [], ◌∷◌, ◌++◌}
 use native.Mathlib.Omega.{arith}
 use lib.Dec.{ltb}
 use lib.ListN.{length, take, get_or, length-append}
-use Rattle.std.proofs.lemmas.List.{length-take-le, take_more}
-use Rattle.std.proofs.Math.Seq.{take-length}
+use Rattle.std.proofs.lemmas.List.{take_more}
 use lib.Ieee.{Float}
-use Rattle.float.specs.Floats.{◌⊕◌}
 use Rattle.candidates.specs.Ring.{tallied, probe_step, probed}
 use Rattle.candidates.specs.Bounds.{Sound, Probing}
 use Rattle.candidates.specs.declared.Probe.{Probe}
 use Rattle.candidates.specs.declared.Tally.{Tally}
-
--- the two arms of `tally`
-pub tally_dark : (e : ℕ) (l l' : Float) (dark : Bool) (s : Tally) (hit : ℕ) → dark ≡ true → hit ≡ cond (beq (ltb 0 e) dark) 1 0 → l' ≡ l
-    → record { hits = s.hits + hit; made = s.made + 1; dark_sum = s.dark_sum ⊕ l'; darks = s.darks + 1; light_sum = s.light_sum; lights = s.lights } ≡ tallied e l dark s
-tally_dark e l l' true s hit d h k =
-    λ i. record { hits = s.hits + h i; made = s.made + 1; dark_sum = s.dark_sum ⊕ k i; darks = s.darks + 1; light_sum = s.light_sum; lights = s.lights }
-tally_dark e l l' false s hit d h k = absurd (let z : ◌≡◌ {A = ℕ} 0 1 = cc in omega arith)
-
-pub tally_light : (e : ℕ) (l l' : Float) (dark : Bool) (s : Tally) (hit : ℕ) → dark ≡ false → hit ≡ cond (beq (ltb 0 e) dark) 1 0 → l' ≡ l
-    → record { hits = s.hits + hit; made = s.made + 1; dark_sum = s.dark_sum; darks = s.darks; light_sum = s.light_sum ⊕ l'; lights = s.lights + 1 } ≡ tallied e l dark s
-tally_light e l l' false s hit d h k =
-    λ i. record { hits = s.hits + h i; made = s.made + 1; dark_sum = s.dark_sum; darks = s.darks; light_sum = s.light_sum ⊕ k i; lights = s.lights + 1 }
-tally_light e l l' true s hit d h k = absurd (let z : ◌≡◌ {A = ℕ} 0 1 = cc in omega arith)
 
 small : (b : Bool) → cond b 1 0 ≤ 1
 small true = omega arith
@@ -85,7 +70,7 @@ module _ (m : List ℕ) (luma : List Float) (w h : ℕ) where
   pub probing_as : {a b : List Probe} {s r : Tally} → a ≡ b → Probing m luma w h a s r → Probing m luma w h b s r
   probing_as {s = s} {r = r} e p = subst (λ z. Probing m luma w h z s r) e p
 
-  -- probes in a loop: none yet, one more, and all
+  -- probes in a loop: none yet, and one more
   pub probing_nothing : (s : Tally) → Sound s → Probing m luma w h [] s s
   unfolding probed
   probing_nothing s k = record { is = refl; sound = k; few = omega arith }
@@ -93,9 +78,3 @@ module _ (m : List ℕ) (luma : List Float) (w h : ℕ) where
   pub probing_next : (l : List Probe) (i : ℕ) (d : Probe) (s r t : Tally) → i < length l → Probing m luma w h (take i l) s r
       → Probing m luma w h (get_or l i d ∷ []) r t → Probing m luma w h (take (i + 1) l) s t
   probing_next l i d s r t k p q = probing_as (sym (take_more l i d k)) (probing_more (take i l) (get_or l i d ∷ []) s r t p q)
-
-  pub probing_upto : (l : List Probe) (i : ℕ) (s r : Tally) → i ≤ length l → Probing m luma w h (take i l) s r → r.made ≤ s.made + i
-  probing_upto l i s r k p = let x = p.few in omega (arith, x, length-take-le i l k)
-
-  pub probing_end : (l : List Probe) (i : ℕ) (s r : Tally) → i ≡ length l → Probing m luma w h (take i l) s r → Probing m luma w h l s r
-  probing_end l i s r e p = probing_as (ap (λ z. take z l) e ∙ take-length l) p

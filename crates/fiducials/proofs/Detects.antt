@@ -1,12 +1,15 @@
 -- A detection, from a look and the corners. Assumes nothing.
 use Prim.Native.Nat.{ℕ, ◌*◌, ◌/◌, ◌≤◌, ◌<◌}
 use mathlib.Core.Path.{◌≡◌, refl, sym, ap, subst, ◌∙◌}
-use mathlib.Core.Bool.{false, not}
+use mathlib.Core.Bool.{false, not, cond}
+use mathlib.Core.Logic.{⊎_elim}
 use mathlib.Core.List.{List}
 use native.Mathlib.Omega.{arith}
-use lib.Dec.{T, T_not}
+use borrow.Author.Tests.{eqb-true, eqb-false}
+use lib.Dec.{T, T_not, eqb}
 use lib.ListN.{length, get_or}
 use Rattle.base.proofs.Enumerations.{rising_once}
+use Rattle.base.proofs.Tests.{either}
 use Rattle.frame.specs.Image.{Image}
 use Rattle.std.specs.Prelude.{Result, Ok}
 use Rattle.frame.specs.Refusals.{number, number_of, Check, lowest_of, Lowest}
@@ -38,23 +41,26 @@ use Rattle.fiducials.proofs.Numbers.{marked_by, share, corner_lowest, tests_lowe
 use Rattle.fiducials.proofs.Outer.{picks_outermost}
 use Rattle.fiducials.proofs.Picks.{pick_below}
 
+abbrev rank : Corner → ℕ
+rank TL = 0
+rank TR = 1
+rank BR = 2
+rank BL = 3
+
+abbrev of_rank : ℕ → Corner
+of_rank n = cond (eqb n 0) TL (cond (eqb n 1) TR (cond (eqb n 2) BR BL))
+
+of_rank_rank : (c : Corner) → of_rank (rank c) ≡ c
+of_rank_rank TL = refl
+of_rank_rank TR = refl
+of_rank_rank BR = refl
+of_rank_rank BL = refl
+
 same_corner : (c d : Corner) → ((c ≡ d → ⊥) → ⊥) → c ≡ d
-same_corner TL TL f = refl
-same_corner TL TR f = absurd (f (λ q. let z : ◌≡◌ {A = ℕ} 0 1 = cc in omega arith))
-same_corner TL BR f = absurd (f (λ q. let z : ◌≡◌ {A = ℕ} 0 1 = cc in omega arith))
-same_corner TL BL f = absurd (f (λ q. let z : ◌≡◌ {A = ℕ} 0 1 = cc in omega arith))
-same_corner TR TL f = absurd (f (λ q. let z : ◌≡◌ {A = ℕ} 0 1 = cc in omega arith))
-same_corner TR TR f = refl
-same_corner TR BR f = absurd (f (λ q. let z : ◌≡◌ {A = ℕ} 0 1 = cc in omega arith))
-same_corner TR BL f = absurd (f (λ q. let z : ◌≡◌ {A = ℕ} 0 1 = cc in omega arith))
-same_corner BR TL f = absurd (f (λ q. let z : ◌≡◌ {A = ℕ} 0 1 = cc in omega arith))
-same_corner BR TR f = absurd (f (λ q. let z : ◌≡◌ {A = ℕ} 0 1 = cc in omega arith))
-same_corner BR BR f = refl
-same_corner BR BL f = absurd (f (λ q. let z : ◌≡◌ {A = ℕ} 0 1 = cc in omega arith))
-same_corner BL TL f = absurd (f (λ q. let z : ◌≡◌ {A = ℕ} 0 1 = cc in omega arith))
-same_corner BL TR f = absurd (f (λ q. let z : ◌≡◌ {A = ℕ} 0 1 = cc in omega arith))
-same_corner BL BR f = absurd (f (λ q. let z : ◌≡◌ {A = ℕ} 0 1 = cc in omega arith))
-same_corner BL BL f = refl
+same_corner c d f = ⊎_elim
+    (λ e. sym (of_rank_rank c) ∙ ap of_rank (eqb-true (rank c) (rank d) e) ∙ of_rank_rank d)
+    (λ e. absurd (f (λ q. eqb-false (rank c) (rank d) e (ap rank q))))
+    (either (eqb (rank c) (rank d)))
 
 module _ (img : Image) (f : FrameSpec) (a b : Areas) (n k waited : ℕ) (R : Ready img f a) (L : Looked img f a b n k waited) where
   abbrev at : ℕ → Point

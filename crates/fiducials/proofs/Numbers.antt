@@ -218,17 +218,17 @@ module _ (img : Image) (f : FrameSpec) (w_held : img.w ≤ 4096) (h_held : img.h
       (λ b. ⊎_elim
       (λ c. ⊎_elim
       (λ d. ⊎_elim
-      (λ e. of TL TR (λ q. let z : ◌≡◌ {A = ℕ} 0 1 = cc in omega arith) e)
-      (λ e. of TL BR (λ q. let z : ◌≡◌ {A = ℕ} 0 1 = cc in omega arith) e)
+      (λ e. of TL TR (λ q. cc) e)
+      (λ e. of TL BR (λ q. cc) e)
       (or_either (eqb (chosen TL) (chosen TR)) (eqb (chosen TL) (chosen BR)) d))
-      (λ d. of TL BL (λ q. let z : ◌≡◌ {A = ℕ} 0 1 = cc in omega arith) d)
+      (λ d. of TL BL (λ q. cc) d)
       (or_either (eqb (chosen TL) (chosen TR) || eqb (chosen TL) (chosen BR)) (eqb (chosen TL) (chosen BL)) c))
-      (λ c. of TR BR (λ q. let z : ◌≡◌ {A = ℕ} 0 1 = cc in omega arith) c)
+      (λ c. of TR BR (λ q. cc) c)
       (or_either (eqb (chosen TL) (chosen TR) || eqb (chosen TL) (chosen BR) || eqb (chosen TL) (chosen BL)) (eqb (chosen TR) (chosen BR)) b))
-      (λ b. of TR BL (λ q. let z : ◌≡◌ {A = ℕ} 0 1 = cc in omega arith) b)
+      (λ b. of TR BL (λ q. cc) b)
       (or_either (eqb (chosen TL) (chosen TR) || eqb (chosen TL) (chosen BR) || eqb (chosen TL) (chosen BL) || eqb (chosen TR) (chosen BR))
       (eqb (chosen TR) (chosen BL)) a))
-      (λ a. of BR BL (λ q. let z : ◌≡◌ {A = ℕ} 0 1 = cc in omega arith) a)
+      (λ a. of BR BL (λ q. cc) a)
       (or_either (eqb (chosen TL) (chosen TR) || eqb (chosen TL) (chosen BR) || eqb (chosen TL) (chosen BL) || eqb (chosen TR) (chosen BR) ||
       eqb (chosen TR) (chosen BL)) (eqb (chosen BR) (chosen BL)) t)
     where

@@ -88,7 +88,7 @@ led_none n q e =
         all_digits = tt;
         value = sym e;
       };
-      first = λ x l h. (let z : ◌≡◌ {A = ℕ} 0 1 = cc in λ k. omega arith);
+      first = λ x l h. cc;
     }
 
 led_more : (q : ℕ) (t : List ℕ) → 0 < q → Led (q / 10) t → Led q (t ++ (digit q ∷ []))

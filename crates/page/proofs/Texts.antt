@@ -1,12 +1,12 @@
 -- The page's text: how long each part is, and how a loop writes it. Assumes nothing.
 use mathlib.Core.Path.{◌≡◌, refl, sym, ap, ◌∙◌}
-use mathlib.Core.List.{List, [], ◌∷◌, ◌++◌, append-nil}
+use mathlib.Core.List.{List, [], ◌∷◌, ◌++◌}
 use Prim.Native.Nat.{ℕ, zero, suc, ◌+◌, ◌-◌, ◌*◌, ◌/◌, ◌^◌, ◌≤◌, ◌<◌}
 use native.Mathlib.Numerals.{add-one}
 use native.Mathlib.Omega.{arith}
 use lib.Ieee.{Float}
 use lib.ListN.{length, drop, set, length-append, length-set}
-use lib.Seq.{drop-cons, drop-length, drop-set-lt, get_or-set_same, append_snoc}
+use lib.Seq.{drop-cons, drop-set-lt, get_or-set_same, append_snoc}
 use Rattle.base.proofs.Joined.{length_joined}
 use Rattle.page.specs.Text.{blank, point, feed, digit, leading, columns, whole, field_of, line_length, line_of, row_at, page_text}
 use Rattle.page.specs.Amounts.{units_of}
@@ -60,9 +60,6 @@ pub page_length : (c : List Float) (n : ℕ) → length (page_text c n) ≡ line
 page_length c n = length_joined _ line_length (λ i. line_length_lem (i + 1) (row_at c i)) n
 
 -- ---- columns from the right: k are left, and what is behind them is written
-
-pub columns_begin : (f : ℕ → ℕ) (q : ℕ) (l : List ℕ) → columns f (length l) q ≡ columns f (length l) q ++ drop (length l) l
-columns_begin f q l = sym (append-nil _) ∙ ap (λ z. columns f (length l) q ++ z) (sym (drop-length l))
 
 pub columns_step : (f : ℕ → ℕ) (k q v : ℕ) (l t : List ℕ) → k < length l → v ≡ f q → t ≡ columns f (k + 1) q ++ drop (k + 1) l
     → t ≡ columns f k (q / 10) ++ drop k (set l k v)

@@ -1,3 +1,2 @@
--- Lemmas of `page::text`: letters, and what parts that came back come to.
-pub mod Letters
+-- Lemmas of `page::text`: what parts that came back come to.
 pub mod Written

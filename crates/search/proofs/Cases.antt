@@ -1,5 +1,5 @@
 -- The definitions, by the cases that the code goes by. Assumes nothing.
-use mathlib.Core.Path.{◌≡◌, refl, ◌∙◌}
+use mathlib.Core.Path.{◌≡◌, refl, sym, ap, ◌∙◌}
 use mathlib.Core.Bool.{Bool, true, false, cond, ◌&&◌}
 use Prim.Native.Nat.{ℕ, ◌+◌, ◌<◌, ◌≤◌}
 use native.Mathlib.Omega.{arith}
@@ -22,6 +22,20 @@ use Rattle.search.specs.declared.Stage.{Stage}
 use Rattle.search.specs.declared.Search.{Search}
 use Rattle.search.specs.Stages.{replaces, staged, takes, stays, begun, keeps, entries, outcome_of}
 use Rattle.search.specs.Turn.{trial_of, advanced}
+
+-- ---- what a stage keeps
+module _ (c : ℕ) (t : GeometryFit) (s : Stage) {o : Outcome} where
+  pub staged_none : o ≡ NoHomography → record { kept = s.kept; fit = s.fit; tried = s.tried + c; homographies = s.homographies } ≡ staged c o t s
+  unfolding staged
+  staged_none e = sym (ap (λ z. staged c z t s) e)
+
+  pub staged_takes : {g : Grade} → o ≡ Graded g → replaces s.kept g ≡ true → takes c g t s ≡ staged c o t s
+  unfolding staged
+  staged_takes e r = pick_yes _ _ _ r ∙ sym (ap (λ z. staged c z t s) e)
+
+  pub staged_stays : {g : Grade} → o ≡ Graded g → replaces s.kept g ≡ false → stays c s ≡ staged c o t s
+  unfolding staged
+  staged_stays e r = pick_no _ _ _ r ∙ sym (ap (λ z. staged c z t s) e)
 
 -- ---- what a stage counts
 

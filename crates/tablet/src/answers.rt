@@ -36,7 +36,7 @@ pub fn outside_cell(grade: Grade) -> u64
 pub fn untouched(n: u32) -> bool
     ensures { result ≡ (leb 1 n && leb n 6) }
 {
-    (1 <= n) & (n <= 6)
+    (1..=6).contains(&n)
 }
 
 // ---- where a slice of numbers is too short: a lower number that applies, or 3

@@ -97,7 +97,7 @@ pub fn tablet_grid_score(
         cell,
         margin,
     };
-    if fit.len() < 13 || grade.len() < 2 || score.len() < 1 {
+    if fit.len() < 13 || grade.len() < 2 || score.is_empty() {
         return capture_first(capture, w, h, frame).number();
     }
     let answer = fit::grid_score(capture, w, h, frame, fit_of(fit), means);

@@ -91,7 +91,7 @@ pub fn tablet_rms_error(a: &[f64], b: &[f64], res: &mut [f64]) -> u32
     ensures { Answer (error_tests a.now b.now res.old) (mat.rms_error
         (quad_of a.now) (quad_of b.now) ∷ []) res.old result res.new }
 {
-    if a.len() < 8 || b.len() < 8 || res.len() < 1 {
+    if a.len() < 8 || b.len() < 8 || res.is_empty() {
         return Refusal::AreaShort.number();
     }
     let error = homography::rms_error(quad(a), quad(b));

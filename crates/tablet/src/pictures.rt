@@ -85,7 +85,7 @@ pub fn tablet_warp_with(
         cell,
         margin,
     };
-    if fit.len() < 13 || counts.len() < 1 {
+    if fit.len() < 13 || counts.is_empty() {
         return capture_first(capture, w, h, frame).number();
     }
     let answer = geometry::warp_with(capture, w, h, frame, fit_of(fit), canonical);
@@ -116,7 +116,7 @@ pub fn tablet_warp_record(
         cell,
         margin,
     };
-    if numbers.len() < 13 || counts.len() < 1 {
+    if numbers.len() < 13 || counts.is_empty() {
         return capture_first(capture, w, h, frame).number();
     }
     let kept = record_at(&[0, 0, grade], numbers, 0);

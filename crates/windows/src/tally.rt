@@ -28,6 +28,31 @@ pub const NO_TALLY: Tally = Tally {
 };
 
 impl Tally {
+    // Patch j, whose box is b, has been looked at for the rectangle r.
+    pub fn meet(&mut self, r: Rectangle, b: Rectangle, j: usize)
+        requires { Valid r × Valid b × (self.old.count + 1 < 2 ^ 64) }
+        ensures { self.new ≡ met r b j self.old }
+    {
+        if touches(r, b) {
+            self.count += 1;
+            self.first = self.first.or(Some(j));
+        }
+        self.keep_nearer(Near {
+            patch: j,
+            distance: distance(r, b),
+        });
+    }
+
+    // The nearer of two stays, the earlier of equals.
+    fn keep_nearer(&mut self, near: Near)
+        ensures { self.new ≡ record self.old { nearest = nearer self.old.nearest near } }
+    {
+        match self.nearest {
+            Some(kept) if kept.distance <= near.distance => {}
+            _ => self.nearest = Some(near),
+        }
+    }
+
     // The answer alone.
     pub fn window(&self) -> Window
         ensures { result ≡ window_in self.now }
@@ -37,32 +62,5 @@ impl Tally {
             first: self.first,
             nearest: self.nearest.map(|near| near.patch),
         }
-    }
-}
-
-// The nearer of two, the earlier of equals.
-fn nearer(kept: Option<Near>, next: Near) -> Option<Near>
-    ensures { result ≡ nearer kept next }
-{
-    match kept {
-        Some(near) if near.distance <= next.distance => kept,
-        _ => Some(next),
-    }
-}
-
-// The tally of rectangle r once patch j, whose box is b, has been looked at.
-pub fn meet(t: Tally, r: Rectangle, b: Rectangle, j: usize) -> Tally
-    requires { Valid r × Valid b × (t.count + 1 < 2 ^ 64) }
-    ensures { result ≡ met r b j t }
-{
-    let touching = touches(r, b);
-    let here = Near {
-        patch: j,
-        distance: distance(r, b),
-    };
-    Tally {
-        count: t.count + touching as u64,
-        first: t.first.or(touching.then_some(j)),
-        nearest: nearer(t.nearest, here),
     }
 }

@@ -8,7 +8,7 @@ ghost use Rattle.windows.specs.Windows.{most_windows};
 ghost use Rattle.windows.specs.Steps.{no_tally, met, tallies};
 
 use super::rectangles::{box_at, rectangle_at, valid};
-use super::tally::{NO_TALLY, Tally, meet};
+use super::tally::{NO_TALLY, Tally};
 use super::{MOST_WINDOWS, Rectangle};
 use frame::Refusal;
 
@@ -22,7 +22,7 @@ fn meet_all(b: Rectangle, j: usize, windows: &[u64], tallies: &mut [Tally])
         tallies.old }
 {
     for (i, tally) in tallies.iter_mut().enumerate() {
-        *tally = meet(*tally, rectangle_at(windows, i), b, j);
+        tally.meet(rectangle_at(windows, i), b, j);
     }
 }
 

@@ -53,7 +53,7 @@ narrow_low x s t j (narrow r m e p h) v = go (rw p at v)
     go v = low (sym v.1)
 
 infinite : (x : Float) (s : Bool) → Narrow x → x ≡ inf s → ⊥
-infinite x s (narrow r m e p h) q = let z : ◌≡◌ {A = ℕ} 0 1 = cc in omega arith
+infinite x s (narrow r m e p h) q = cc
 
 module _ (x : Float) (d : ℕ) (F : T (fits binary64 x)) (R : Narrow x) (D : d ≤ 1000) where
   abbrev b : ℕ
@@ -87,19 +87,6 @@ module _ (x : Float) (d : ℕ) (F : T (fits binary64 x)) (R : Narrow x) (D : d �
     where
       go : (e : ℕ) → 1012 ≤ e → 1074 - e < 64
       go e h = omega arith
-
-  pub half_held : 1012 ≤ e → (1 ≤ half) × (half ≤ 2 ^ 62)
-  half_held lo = (le_trans (pow_pos (1074 - e)) (le_of_eq (sym (half_is lo))), le_trans (le_of_eq (half_is lo)) (pow_mono (go e lo)))
-    where
-      go : (e : ℕ) → 1012 ≤ e → 1074 - e ≤ 62
-      go e h = omega arith
-
-  -- all digits are below 2 ^ 53, and a thousand times as many below 2 ^ 63
-  pub product_low : (y : ℕ) → (2 ^ 52 + y % 2 ^ 52) * d ≤ (2 ^ 53 - 1) * 1000
-  product_low y = mul-le-mul (go y) D
-    where
-      go : (y : ℕ) → 2 ^ 52 + y % 2 ^ 52 ≤ 2 ^ 53 - 1
-      go y = omega arith
 
   -- as the code has it
   pub shifted : 1012 ≤ e → ((2 ^ 52 + b % 2 ^ 52) * d + half) / 2 ^ (1074 - e + 1) ≡ units_of d x

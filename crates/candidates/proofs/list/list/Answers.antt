@@ -1,16 +1,13 @@
 -- `candidates::list::list` meets its contract. Assumes nothing.
 use native.Mathlib.Omega.{arith}
-use mathlib.Core.Path.{◌≡◌, sym, ap, subst, ◌∙◌}
+use mathlib.Core.Path.{sym, ap, subst, ◌∙◌}
 use Rattle.blobs.specs.Patches.{patch_at}
-use Rattle.candidates.specs.Ring.{ring_of, CandidateList}
+use Rattle.candidates.specs.Ring.{ring_of}
 use Rattle.candidates.specs.Bounds.{BlobHeld}
 use Rattle.candidates.proofs.Held.{blob_held}
-use Rattle.candidates.proofs.Listing.{list_none, list_with, list_without, count_with, count_without, room_for}
+use Rattle.candidates.proofs.Listing.{list_with, list_without, count_with, count_without, room_for}
 use Rattle.candidates.proofs.list.list.Goals as goal
 use Rattle.candidates.proofs.list.list.Goals.{in-Some, in_default}
-
-pub loop-j-init : goal.loop-j-init
-loop-j-init c = record { listed = list_none _ _ _ _ _ _ _; counted = omega arith; upto = omega arith }
 
 pub candidate_of-requires : goal.candidate_of-requires
 candidate_of-requires c =
@@ -50,17 +47,3 @@ loop-j-preserved c =
             upto = omega arith;
           })
     ]
-
-pub shape_of-candidates : goal.shape_of-candidates
-shape_of-candidates c = c.loop-j.invariant.listed.c_long
-
-pub shape_of-blob_index : goal.shape_of-blob_index
-shape_of-blob_index c = c.loop-j.invariant.listed.p_long
-
-pub returns : goal.returns
-returns c =
-    let a = c.args in
-    let l = c.loop-j in
-    let e : l.j ≡ a.n = omega arith in
-    subst (λ z. CandidateList a.mask.now a.luma.now a.w a.h (patch_at a.patches.now) z a.candidates.now a.blob_index.now l.candidates l.blob_index l.k) e
-    l.invariant.listed

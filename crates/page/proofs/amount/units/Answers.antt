@@ -2,8 +2,8 @@
 use mathlib.Core.Path.{sym, subst}
 use native.Mathlib.Omega.{arith}
 use lib.Dec.{T}
-use lib.Ieee.{binary64, fits, to_bits}
-use Rattle.page.proofs.amount.Digits.{narrow_number, exponent_low, half_held, product_low, shifted, nothing_left}
+use lib.Ieee.{binary64, fits}
+use Rattle.page.proofs.amount.Digits.{narrow_number, exponent_low, shifted, nothing_left}
 use Rattle.page.proofs.amount.units.Goals as goal
 
 pub float_to_bits-b : goal.float_to_bits-b
@@ -18,16 +18,6 @@ pub overflow_sub-h : goal.overflow_sub-h
 overflow_sub-h c =
     let held : T (fits binary64 c.args.x) = subst T (sym c.well_formed.0.1) tt in
     omega (arith, exponent_low _ _ (held) c.requires.0 c.requires.1)
-
-pub overflow_mul-result : goal.overflow_mul-result
-overflow_mul-result c =
-    let held : T (fits binary64 c.args.x) = subst T (sym c.well_formed.0.1) tt in
-    omega (arith, product_low c.args.x c.args.scale (held) c.requires.0 c.requires.1 (to_bits binary64 c.args.x))
-
-pub overflow_add-result : goal.overflow_add-result
-overflow_add-result c =
-    let held : T (fits binary64 c.args.x) = subst T (sym c.well_formed.0.1) tt in
-    omega (arith, product_low c.args.x c.args.scale (held) c.requires.0 c.requires.1 (to_bits binary64 c.args.x), half_held _ _ (held) c.requires.0 c.requires.1 c.if-e-lt1012.false)
 
 pub returns : goal.returns
 returns c =

@@ -3,7 +3,7 @@ use native.Mathlib.Omega.{arith}
 use mathlib.Core.Path.{◌≡◌, sym, ap, ◌∙◌}
 use Rattle.page.specs.Text.{row_at}
 use Rattle.page.specs.Promises.{row_printable}
-use Rattle.base.proofs.Every.{every_begin, every_more, every_stops, every_end}
+use Rattle.base.proofs.Every.{every_begin, every_more, every_stops}
 use Rattle.page.proofs.rows.every_printable.Goals as goal
 
 pub loop-i-init : goal.loop-i-init
@@ -20,8 +20,3 @@ loop-i-preserved c =
     let k = c.loop-i in
     let printed : row_printable (row_at c.args.candidates.now k.i) ≡ c.row_printable.result = sym (c.row_printable.ensures ∙ ap row_printable c.row_at.ensures) in
     every_more _ k.i k.invariant (printed ∙ c.if-not-row_printable.false)
-
-pub returns : goal.returns
-returns c =
-    let k = c.loop-i in
-    sym (every_end _ k.i _ k.invariant (omega arith))

@@ -6,11 +6,8 @@ use mathlib.Core.Path.{◌≡◌, ap, ◌∙◌}
 use lib.ListN.{length, drop}
 use Rattle.page.specs.Text.{columns}
 use Rattle.page.specs.Steps.{letter_of}
-use Rattle.page.proofs.Texts.{columns_begin, columns_step, columns_end}
+use Rattle.page.proofs.Texts.{columns_step, columns_end}
 use Rattle.page.proofs.text.put_columns.Goals as goal
-
-pub loop-k-init : goal.loop-k-init
-loop-k-init c = columns_begin (letter_of c.args.pad) c.args.q c.args.area.now
 
 pub loop-k-preserved : goal.loop-k-preserved
 loop-k-preserved c =

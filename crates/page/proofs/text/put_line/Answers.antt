@@ -4,16 +4,9 @@ use mathlib.Core.Path.{◌≡◌, sym}
 use lib.ListN.{length}
 use Rattle.page.specs.Amounts.{units_of}
 use Rattle.page.specs.Text.{blank, feed, line_of}
-use lib.Seq.{length-take-le}
 use Rattle.base.proofs.Over.{part_whole}
 use Rattle.page.proofs.text.Written.{line_first, line_next}
 use Rattle.page.proofs.text.put_line.Goals as goal
-
-pub slice_bounds-put_whole-end-2 : goal.slice_bounds-put_whole-end-2
-slice_bounds-put_whole-end-2 c = sym (length-take-le 5 c.args.line.now (omega arith))
-
-pub put_whole-requires : goal.put_whole-requires
-put_whole-requires c = omega (arith, length-take-le 5 c.args.line.now (omega arith))
 
 pub returns : goal.returns
 unfolding line_of

@@ -34,9 +34,6 @@ loop-i-preserved c =
       long = same_len_mid (37 * k.i) (37 * k.i + 37 - 37 * k.i) k.page x.new.line x.auto.line ∙ k.invariant.long;
     }
 
-pub shape_of-page : goal.shape_of-page
-shape_of-page c = c.loop-i.invariant.long
-
 pub returns : goal.returns
 returns c =
     let k = c.loop-i in

@@ -32,7 +32,7 @@ meet-requires c =
 pub loop-i-preserved : goal.loop-i-preserved
 loop-i-preserved c =
     let a = c.args in
-    filled_step _ _ c.loop-i.i c.meet.result c.loop-i.invariant
+    filled_step _ _ c.loop-i.i c.meet.new.self c.loop-i.invariant
     (c.meet.ensures ∙ ap₂ (λ r t. met r a.b a.j t) c.rectangle_at.ensures (next _ _ _ _ c.loop-i.invariant))
 
 pub returns : goal.returns
