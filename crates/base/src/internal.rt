@@ -8,10 +8,8 @@ pub fn little_endian(b: &[u8], p: usize, n: usize) -> u64
     ensures { (result ≡ little_endian n b.now p) × (result < 256 ^ n) }
 {
     let mut v: u64 = 0;
-    let mut k = n;
-    while k > 0 {
-        k -= 1;
-        v = v * 256 + (b[p + k] as u64);
+    for k in (0..n).rev() {
+        v = v * 256 + u64::from(b[p + k]);
     }
     v
 }
@@ -21,10 +19,8 @@ pub fn put_little_endian(area: &mut [u8], v: u64)
     ensures { area.new ≡ le_bytes (length area.old) v }
 {
     let mut rest = v;
-    let mut k: usize = 0;
-    while k < area.len() {
-        area[k] = (rest % 256) as u8;
+    for byte in area.iter_mut() {
+        *byte = (rest % 256) as u8;
         rest /= 256;
-        k += 1;
     }
 }

@@ -259,10 +259,10 @@ module _ (img : Image) (f : FrameSpec) (a : Areas) (means : List Float) where
   pub fit_ready : lowest_of (fit_tests img f a means) ≡ 0 → Ready img f a × (sampled_cells f ≤ length means)
   fit_ready e = fit_room img f a means false (clear img f short false e)
 
--- a call's tests, by the lengths of its areas
-pub fit_by_lengths : (img : Image) (f : FrameSpec) (a : Areas) (means : List Float) {n : ℕ} {l : Lengths} → l ≡ lengths_of a
-    → n ≡ lowest_of (picture_tests img f (fit_short img f l (length means)) false) → n ≡ lowest_of (fit_tests img f a means)
-fit_by_lengths img f a means e g = g ∙ ap (λ z. lowest_of (picture_tests img f (fit_short img f z (length means)) false)) e
+-- the lengths that it is handed are those of the areas
+pub by_lengths : (img : Image) (f : FrameSpec) (m : ℕ) (wrong : Bool) {l l' : Lengths} {n : ℕ} → l ≡ l'
+    → n ≡ lowest_of (picture_tests img f (fit_short img f l m) wrong) → n ≡ lowest_of (picture_tests img f (fit_short img f l' m) wrong)
+by_lengths img f m wrong e h = h ∙ ap (λ (l : Lengths). lowest_of (picture_tests img f (fit_short img f l m) wrong)) e
 
 -- corners and search of a picture and a frame by what they are
 pub fit_past_as : {img img' : Image} {f f' : FrameSpec} {a b : Areas} {means means' : List Float} {p : PictureFit} → img' ≡ img → f' ≡ f

@@ -8,7 +8,7 @@ use lib.Ieee.Order.{round_mono}
 use lib.Ieee.Positive.{above, above_of_le}
 use Rattle.base.proofs.Arith.{le_or_lt}
 use Rattle.float.specs.Floats.{◌⊕◌}
-use Rattle.float.proofs.rounding.Rounded.{round_neg}
+use Rattle.std.proofs.num.Values.{neg-round}
 
 -- −0
 unfoldable pub is_minus_zero : Float → Bool
@@ -141,7 +141,7 @@ smallest = refl
 
 round_minus : (a b : ℕ) → 0 < b → b ≤ a * 2 ^ low binary64 → T (not (is_minus_zero (round binary64 true a b)))
 round_minus a b B h =
-    subst (λ (x : Float). T (not (is_minus_zero x))) (round_neg binary64 a b)
+    subst (λ (x : Float). T (not (is_minus_zero x))) (neg-round binary64 a b)
     (minus_above (round binary64 false a b)
     (above_of_le (fin false 1 (negsuc 1073)) (round binary64 false a b) tt
     (subst (λ (x : Float). T (lib.Ieee.le x (round binary64 false a b))) smallest

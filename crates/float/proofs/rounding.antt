@@ -1,2 +1,2 @@
--- Lemmas of `float::rounding`: halves.
+-- Lemmas of `float::rounding`: std's rounding is ours.
 pub mod Rounded

@@ -1,2 +1,2 @@
--- Lemmas of `float::sign`: the sign bit.
+-- Lemmas of `float::sign`: std's words are ours.
 pub mod Signs

@@ -1,4 +1,2 @@
--- Lemmas of `float::whole`: saturation, floor, and the exponent of a bounded float.
-pub mod Exponent
+-- Lemmas of `float::whole`: floor.
 pub mod Floor
-pub mod Saturate

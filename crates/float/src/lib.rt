@@ -1,6 +1,6 @@
-// The float operations that Rattle lacks, each as IEEE 754 and Rust have it (requirements, 4).
-// Every function takes every value, NaNs, infinities and both zeros too, and its contract is an
-// equation with a definition of specs/.
+// The float operations of the requirements (4), each as IEEE 754 and Rust have it. Every function
+// takes every value, NaNs, infinities and both zeros too, and its contract is an equation with a
+// definition of specs/.
 #![tactic(auto)]
 
 pub mod internal;

@@ -7,20 +7,12 @@ ghost use Rattle.std.specs.Float.{binary64};
 pub fn to_bits(x: f64) -> u64
     ensures { result ≡ to_bits binary64 x }
 {
-    if x != x {
-        0x7ff8_0000_0000_0000
-    } else {
-        f64::to_bits(x)
-    }
+    std::num::f64_to_bits_with_nan(x)
 }
 
 // The float that the pattern p stands for, a NaN's too.
 pub fn from_bits(p: u64) -> f64
     ensures { result ≡ from_bits binary64 p }
 {
-    if 0x7ff0_0000_0000_0000 < p % 0x8000_0000_0000_0000 {
-        0.0 / 0.0
-    } else {
-        f64::from_bits(p)
-    }
+    std::num::f64_from_bits_with_nan(p)
 }

@@ -12,23 +12,23 @@ pub fn sqrt(x: f64) -> f64
     ensures nearest_root { T (positive x) → NearestRoot x result }
 {
     if x > 0.0 {
-        let b = f64::to_bits(x);
+        let b = x.to_bits();
         if b < 0x10_0000_0000_0000 {
             // subnormal: the digits are moved up until the leading one stands at 52
-            let z = (u64::leading_zeros(b) as u64) - 11;
+            let z = u64::from(b.leading_zeros()) - 11;
             scaled_root(b << z, 1024 - z)
+        } else if b < 0x7ff0_0000_0000_0000 {
+            scaled_root(
+                0x10_0000_0000_0000 + b % 0x10_0000_0000_0000,
+                b / 0x10_0000_0000_0000 + 1023,
+            )
         } else {
-            if b < 0x7ff0_0000_0000_0000 {
-                scaled_root(
-                    0x10_0000_0000_0000 + b % 0x10_0000_0000_0000,
-                    b / 0x10_0000_0000_0000 + 1023,
-                )
-            } else {
-                x
-            }
+            x
         }
+    } else if x == 0.0 {
+        x
     } else {
-        if x == 0.0 { x } else { 0.0 / 0.0 }
+        f64::NAN
     }
 }
 
@@ -36,10 +36,10 @@ pub fn sqrt(x: f64) -> f64
 // half of the rest is the root's exponent. The sum carries where the root's digits round up to
 // 2^53.
 fn scaled_root(d: u64, g: u64) -> f64
-    requires fact_1 { 2 ^ 52 ≤ d }
-    requires fact_2 { d < 2 ^ 53 }
-    requires fact_3 { 900 ≤ g }
-    requires fact_4 { g < 3072 }
+    requires digits_from { 2 ^ 52 ≤ d }
+    requires digits_below { d < 2 ^ 53 }
+    requires exponent_from { 900 ≤ g }
+    requires exponent_below { g < 3072 }
     ensures { result ≡ units binary64 false (nearest_root (d * 2 ^ (g % 2) * 2 ^ 52)) (g / 2 - 1) }
 {
     let q = root_by_digits(d << (g % 2));
@@ -55,8 +55,7 @@ fn root_by_digits(a: u64) -> u64
     let mut rest = a;
     let mut r: u64 = 0;
     let mut e: u64 = 0;
-    let mut i: u64 = 0;
-    while i < 53 {
+    for _ in 0..53u64 {
         let next = e * 4 + rest / 0x10_0000_0000_0000;
         rest = rest % 0x10_0000_0000_0000 * 4;
         if r * 4 < next {
@@ -64,9 +63,8 @@ fn root_by_digits(a: u64) -> u64
             r = r * 2 + 1;
         } else {
             e = next;
-            r = r * 2;
+            r *= 2;
         }
-        i += 1;
     }
     if r < e { r + 1 } else { r }
 }

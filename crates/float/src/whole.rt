@@ -3,55 +3,21 @@
 ghost use Rattle.std.specs.Prelude.{◌≡◌, ◌^◌, ◌≤◌};
 ghost use Rattle.float.specs.Floats.{f64, as_u8, as_usize};
 
-// Rust's `x as u8`. The whole part is the digits of x's pattern, shifted down.
+// Rust's `x as u8`.
 pub fn to_u8(x: f64) -> u8
     ensures { result ≡ as_u8 x }
 {
-    if x >= 1.0 {
-        if x < 256.0 {
-            let b = f64::to_bits(x);
-            let digits = (b & 0xf_ffff_ffff_ffff) | 0x10_0000_0000_0000;
-            (digits >> (1075 - (b >> 52))) as u8
-        } else {
-            255
-        }
-    } else {
-        0
-    }
+    std::num::saturating_f64_to_u8(x)
 }
 
-// Rust's `x as usize`, below 2^53 by the same shift.
+// Rust's `x as usize`.
 pub fn to_usize(x: f64) -> usize
     ensures { result ≡ as_usize x }
 {
-    if x >= 1.0 {
-        if x < 9007199254740992.0 {
-            let b = f64::to_bits(x);
-            let digits = (b & 0xf_ffff_ffff_ffff) | 0x10_0000_0000_0000;
-            (digits >> (1075 - (b >> 52))) as usize
-        } else {
-            large_to_usize(x)
-        }
-    } else {
-        0
-    }
+    std::num::saturating_f64_to_usize(x)
 }
 
-fn large_to_usize(x: f64) -> usize
-    ensures { result ≡ as_usize x }
-{
-    if x >= 1.0 {
-        if x < 18446744073709551616.0 {
-            std::num::truncating_f64_to_u64(x) as usize
-        } else {
-            usize::MAX
-        }
-    } else {
-        0
-    }
-}
-
-// A count up to 2^53 as a float, by one instruction.
+// A count up to 2^53 as a float, by one instruction; `n as f64` takes five.
 pub fn to_f64(n: usize) -> f64
     requires { n ≤ 2 ^ 53 }
     ensures { result ≡ f64 n }

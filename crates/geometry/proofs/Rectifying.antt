@@ -19,8 +19,7 @@ use Rattle.frame.specs.declared.refusals.Refusal.TheVariants.{Unscored}
 use Rattle.frame.proofs.Given.{positive}
 use Rattle.frame.proofs.Lowest.{none_tested}
 use Rattle.base.proofs.Table.{filled_whole}
-use Rattle.candidates.specs.Areas.{Areas, lengths_of, picture_tests}
-use Rattle.candidates.specs.declared.Lengths.{Lengths}
+use Rattle.candidates.specs.Areas.{Areas, lengths_of}
 use Rattle.candidates.specs.Bounds.{Ready}
 use Rattle.candidates.proofs.Refusing.{clear, rising, upto_six}
 use Rattle.fiducials.specs.Promises.{MarkedBy, centers_at}
@@ -86,12 +85,6 @@ pub record Passed (img : Image) (f : FrameSpec) (a : Lent) : Type 0 where
   pub ready : Ready img f a.areas
   pub means_room : sampled_cells f ≤ length a.means
   pub canonical_long : length a.canonical ≡ canonical_length f
-
--- a call's tests, by the lengths of its areas
-pub by_lengths : (img : Image) (f : FrameSpec) (a : Lent) {n : ℕ} {l : Lengths} → l ≡ lengths_of a.areas
-    → n ≡ lowest_of (picture_tests img f (fit_short img f l (length a.means)) (canonical_wrong f (length a.canonical)))
-    → n ≡ lowest_of (rectify_tests img f a)
-by_lengths img f a e g = g ∙ ap (λ z. lowest_of (picture_tests img f (fit_short img f z (length a.means)) (canonical_wrong f (length a.canonical)))) e
 
 pub passed : (img : Image) (f : FrameSpec) (a : Lent) → lowest_of (rectify_tests img f a) ≡ 0 → Passed img f a
 unfolding canonical_wrong

@@ -99,7 +99,7 @@ pub fn canonical_wrong(frame: CheckedFrame, n: usize) -> bool
 }
 
 // The capture and the frame of a warp, or its refusal by 1, 2 or 4.
-pub fn warp_tested<'a>(
+pub(crate) fn warp_tested<'a>(
     capture: &'a [u8],
     w: usize,
     h: usize,

@@ -40,7 +40,9 @@ passed_more (Graded a) b g h k = not_T (lt (score_of g) (score_of a)) (λ l. T_n
 passed_as_much : (x : Outcome) (b g : Grade) → T (not (more x (Graded b))) → T (lt (score_of b) (score_of g)) → T (not (as_much x (Graded g)))
 unfolding more as_much
 passed_as_much NoHomography b g h k = tt
-passed_as_much (Graded a) b g h k = go (is_nan (score_of a)) (λ n. not_le_nan (score_of g) (score_of a) n) (λ n. lt_not_le (score_of a) (score_of g) (step_lt (score_of a) (score_of b) (score_of g) h k n))
+passed_as_much (Graded a) b g h k =
+    go (is_nan (score_of a)) (λ n. not_le_nan (score_of g) (score_of a) n)
+    (λ n. lt_not_le (score_of a) (score_of g) (step_lt (score_of a) (score_of b) (score_of g) h k n))
   where
     go : (n : Bool) → (T n → T (not (le (score_of g) (score_of a)))) → (T (not n) → T (not (le (score_of g) (score_of a)))) → T (not (le (score_of g) (score_of a)))
     go true p q = p tt

@@ -1,6 +1,6 @@
 -- A search of turns comes to what the three stages come to, in at most 78 turns. Assumes nothing.
 use mathlib.Core.Path.{◌≡◌, refl, sym, ap, subst, ◌∙◌}
-use mathlib.Core.Bool.{Bool, true, false, cond, ◌&&◌, false≢true}
+use mathlib.Core.Bool.{Bool, true, false, cond, ◌&&◌}
 use mathlib.Core.Logic.{⊎_elim}
 use Prim.Native.Nat.{ℕ, zero, suc, ◌+◌, ◌-◌, ◌≤◌, ◌<◌}
 use native.Mathlib.Omega.{arith}
@@ -200,28 +200,28 @@ module _ (img : Image) (f : FrameSpec) (q : Quad) where
 
   -- ---- from stage to stage
   next_is : (j : ℕ) (s : Stage) → keeps s.kept ≡ true → next_stage img f q j s ≡ stage_from img f q j s.fit.radial.k s.tried s.homographies
-  unfolding next_stage
+  unfolding next_stage keeps
   next_is j s k = go s.kept k
     where
       go : (o : Outcome) → keeps o ≡ true → on_kept o s (stage_from img f q j s.fit.radial.k s.tried s.homographies)
           ≡ stage_from img f q j s.fit.radial.k s.tried s.homographies
-      go NoHomography k = absurd (false≢true (unfold keeps in k))
+      go NoHomography k = cc
       go (Graded g) k = refl
 
   next_none : (j : ℕ) (s : Stage) → keeps s.kept ≡ false → next_stage img f q j s ≡ s
-  unfolding next_stage
+  unfolding next_stage keeps
   next_none j s k = go s.kept k
     where
       go : (o : Outcome) → keeps o ≡ false → on_kept o s (stage_from img f q j s.fit.radial.k s.tried s.homographies) ≡ s
       go NoHomography k = refl
-      go (Graded g) k = absurd (false≢true (sym (unfold keeps in k)))
+      go (Graded g) k = cc
 
   -- none kept before the third stage
   none_kept : (j : ℕ) (t : Stage) → j < 2 → (keeps t.kept && ltb j 2) ≡ false → keeps t.kept ≡ false
   none_kept j t l e = go (keeps t.kept) (ltb j 2) (lt-ltb j 2 l) e
     where
       go : (a b : Bool) → b ≡ true → (a && b) ≡ false → a ≡ false
-      go true b h e = absurd (false≢true (sym e ∙ h))
+      go true b h e = cc
       go false b h e = refl
 
   -- the first head of a stage
@@ -304,7 +304,7 @@ module _ (img : Image) (f : FrameSpec) (q : Quad) where
   turn_left s (in_first r) e = left_less 0 _ _ _ s r (lit< tt) (turned 0 _ _ _ s r)
   turn_left s (in_second g r) e = left_less 1 _ _ _ s r (lit< tt) (turned 1 _ _ _ s r)
   turn_left s (in_third g r) e = left_less 2 _ _ _ s r (lit< tt) (turned 2 _ _ _ s r)
-  turn_left s (over d g) e = absurd (false≢true (sym e ∙ d))
+  turn_left s (over d g) e = cc
 
   pub turn_held : (s : Search) → Reached s → s.ended ≡ false → Held s → Held (turn_of img f q s)
   turn_held s r e h =
@@ -325,11 +325,11 @@ module _ (img : Image) (f : FrameSpec) (q : Quad) where
   turn_counting s (in_first r) e h = counting 0 _ _ _ s r (lit< tt) h
   turn_counting s (in_second g r) e h = counting 1 _ _ _ s r (lit< tt) h
   turn_counting s (in_third g r) e h = counting 2 _ _ _ s r (lit< tt) h
-  turn_counting s (over d g) e h = absurd (false≢true (sym e ∙ d))
+  turn_counting s (over d g) e h = cc
 
   -- the end
   pub ended_searched : (s : Search) → Reached s → s.ended ≡ true → s.stage ≡ searched img f q
-  ended_searched s (in_first r) e = absurd (false≢true (sym r.going ∙ e))
-  ended_searched s (in_second g r) e = absurd (false≢true (sym r.going ∙ e))
-  ended_searched s (in_third g r) e = absurd (false≢true (sym r.going ∙ e))
+  ended_searched s (in_first r) e = cc
+  ended_searched s (in_second g r) e = cc
+  ended_searched s (in_third g r) e = cc
   ended_searched s (over d g) e = g

@@ -11,7 +11,8 @@ use fit::{GeometryFit, Grade};
 // picture, folds it onto itself and scores high there, and 0.20 covers any real camera.
 pub const K_MAX: f64 = 0.20;
 
-// A trial: no homography, or the grade of its fit.
+// A trial: no homography, or the grade of its fit. An enum of its own and no Option: the
+// requirements ask for it.
 #[derive(Clone, Copy)]
 pub enum Outcome {
     NoHomography,

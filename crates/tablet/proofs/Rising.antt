@@ -13,57 +13,47 @@ use Rattle.tablet.specs.Tests.{length_tests, fit_tests, capture_first, mask_firs
 
 module _ (a b d : List Float) where
   pub product_rising : Rising 0 (product_tests a b d)
-  unfolding product_tests
   product_rising = (omega arith, tt)
 
   pub move_rising : (n : ℕ) → Rising 0 (move_tests n a b)
-  unfolding move_tests
   move_rising n = (omega arith, tt)
 
   pub inverse_rising : Rising 0 (inverse_tests a b)
-  unfolding inverse_tests
   inverse_rising = (omega arith, (omega arith, tt))
 
   pub points_rising : Rising 0 (points_tests a b d)
-  unfolding points_tests
   points_rising = (omega arith, (omega arith, tt))
 
   pub error_rising : Rising 0 (error_tests a b d)
-  unfolding error_tests
   error_rising = (omega arith, tt)
 
 pub lens_rising : (w h : ℕ) (l : List Float) → Rising 0 (lens_tests w h l)
-unfolding lens_tests side_tests
+unfolding side_tests
 lens_rising w h l = (omega arith, (omega arith, tt))
 
 pub colour_rising : (img : Image) (l : List ℕ) → Rising 0 (colour_tests img l)
-unfolding colour_tests capture_tests
+unfolding capture_tests
 colour_rising img l = (omega arith, (omega arith, tt))
 
 pub marker_rising : (cell : ℕ) (l : List ℕ) → Rising 0 (marker_tests cell l)
-unfolding marker_tests cell_tests
+unfolding cell_tests
 marker_rising cell l = (omega arith, (omega arith, tt))
 
 pub cells_rising : (f : FrameSpec) (l : List ℕ) → Rising 0 (cells_tests f l)
-unfolding cells_tests frame_tests
+unfolding frame_tests
 cells_rising f l = (omega arith, (omega arith, tt))
 
 pub center_rising : (f : FrameSpec) (l : List Float) → Rising 0 (center_tests f l)
-unfolding center_tests
 center_rising f l = (omega arith, (omega arith, (omega arith, tt)))
 
 pub length_rising : (w h : ℕ) (f : FrameSpec) (l : List ℕ) → Rising 0 (length_tests w h f l)
-unfolding length_tests
 length_rising w h f l = (omega arith, (omega arith, (omega arith, tt)))
 
 pub fit_rising : (w h : ℕ) (f : FrameSpec) (points : List Float) (k : Float) (l : List Float) → Rising 0 (fit_tests w h f points k l)
-unfolding fit_tests
 fit_rising w h f points k l = (omega arith, (omega arith, (omega arith, (omega arith, (omega arith, tt)))))
 
 pub capture_first_rising : (img : Image) (f : FrameSpec) → Rising 0 (capture_first img f)
-unfolding capture_first
 capture_first_rising img f = (omega arith, (omega arith, (omega arith, tt)))
 
 pub mask_first_rising : (mask w h : ℕ) → Rising 0 (mask_first mask w h)
-unfolding mask_first
 mask_first_rising mask w h = (omega arith, (omega arith, tt))

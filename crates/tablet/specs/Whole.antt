@@ -8,7 +8,7 @@ use Rattle.candidates.specs.Areas.{Areas}
 use Rattle.fit.specs.Grid.{score_of}
 use Rattle.search.specs.declared.Outcome.{Outcome}
 use Rattle.search.specs.declared.Outcome.TheVariants.{NoHomography, Graded}
-use Rattle.fit_geometry.specs.Promises.{Fitting}
+use Rattle.fit_geometry.specs.Promises.{corners_named, Fitting}
 use Rattle.fit_geometry.specs.declared.PictureFit.{PictureFit}
 use Rattle.geometry.specs.Rectification.{Lent, Rectification}
 use Rattle.tablet.specs.Slices.{short, answered, told, Over}
@@ -32,8 +32,9 @@ kept_score (Graded g) = score_of g
 -- "Entries of the counts": the eleven of a fit
 unfoldable pub found_numbers : PictureFit → List ℕ
 found_numbers a =
-    list_numbers a.patches a.candidates a.waited
-    ++ (place_numbers a.places ++ (a.tried ∷ a.homographies ∷ kept_number a.kept ∷ kept_cell a.kept ∷ []))
+    list_numbers a.counts.patches a.counts.candidates a.counts.waited
+    ++ (place_numbers (corners_named a.places)
+    ++ (a.stage.tried ∷ a.stage.homographies ∷ kept_number a.stage.kept ∷ kept_cell a.stage.kept ∷ []))
 
 -- .. and all twelve: [23.5] last the number of canonical pixels whose position was not inside
 unfoldable pub flat_numbers : PictureFit → ℕ → List ℕ
@@ -41,11 +42,11 @@ flat_numbers a beyond = found_numbers a ++ (beyond ∷ [])
 
 -- "Entries of a found fit": all fourteen
 unfoldable pub scored_fit : PictureFit → List Float
-scored_fit a = fit_numbers a.fit ++ (kept_score a.kept ∷ [])
+scored_fit a = fit_numbers a.stage.fit ++ (kept_score a.stage.kept ∷ [])
 
 -- the slices for counts and fit after a call that was answered a, of which the counts are `found`, with the number r
 pub record Told (a : PictureFit) (found counts counts' : List ℕ) (fit fit' : List Float) (r : ℕ) : Type 0 where
-  pub number : r ≡ number_of a.verdict
+  pub number : r ≡ number_of a.places
   pub counts_are : counts' ≡ told r found counts
   pub fit_is : fit' ≡ answered r (scored_fit a) fit
 

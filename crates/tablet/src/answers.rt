@@ -1,137 +1,38 @@
-// The public functions' answers as a number and a value, and the number where a slice of numbers is
-// too short.
+// The number that C is given for an answer, and what goes before a slice that is too short.
+#![tactic(auto, unfolding(frame::specs::Refusals::lowest_of))]
+
 ghost use Rattle.std.specs.Prelude.{◌≡◌, ◌&&◌, leb};
 ghost use Rattle.frame.specs.Image.{image};
-ghost use Rattle.frame.specs.Refusals.{number_of, lowest_of};
-ghost use Rattle.frame.specs.Answers.{number_refusal, number_value};
-ghost use Rattle.markers.specs.Answers.{centers_refusal, centers_value};
-ghost use Rattle.radial.specs.Lens.{lens_refusal, lens_value};
-ghost use Rattle.sampling.specs.Answers.{colour_refusal, colour_value};
+ghost use Rattle.frame.specs.Refusals.{number, number_of, lowest_of};
 ghost use Rattle.tablet.specs.Layouts.{outside_cell};
 ghost use Rattle.tablet.specs.Tests.{frame_first, sides_first, capture_first, mask_first};
 
 use fit::Grade;
 use frame::internal::{capture_wrong, frame_outside, sides_wrong};
-use frame::{FrameSpec, Number, Point, Quad, Rgb, Verdict};
-use markers::Centers;
-use radial::{Lens, Radial};
-use sampling::{Colour, Sample};
+use frame::{FrameSpec, Refusal};
 
 // The number of a refusal, 0 of an acceptance.
-pub fn number_of(v: Verdict) -> u32
-    ensures { result ≡ number_of v }
+pub fn number_of<T: Copy>(answer: Result<T, Refusal>) -> u32
+    ensures { result ≡ number_of answer }
 {
-    match v {
-        Verdict::Accepted => 0,
-        Verdict::Refused(n) => n,
-    }
-}
-
-// The refusal of an answer that is a number, 0 where there is none.
-pub fn count_number(a: Number) -> u32
-    ensures { result ≡ number_refusal a }
-{
-    match a {
-        Number::Is(_) => 0,
-        Number::Refused(n) => n,
-    }
-}
-
-// Its value, 0 where it is refused.
-pub fn count_value(a: Number) -> u64
-    ensures { result ≡ number_value a }
-{
-    match a {
-        Number::Is(v) => v as u64,
-        Number::Refused(_) => 0,
-    }
-}
-
-// The refusal of a lens, 0 where there is none.
-pub fn lens_number(a: Lens) -> u32
-    ensures { result ≡ lens_refusal a }
-{
-    match a {
-        Lens::Is(_) => 0,
-        Lens::Refused(n) => n,
-    }
-}
-
-// The lens; where it is refused, one that bends nothing.
-pub fn lens_value(a: Lens) -> Radial
-    ensures { result ≡ lens_value a }
-{
-    match a {
-        Lens::Is(l) => l,
-        Lens::Refused(_) => Radial {
-            k: 0.0,
-            cx: 0.0,
-            cy: 0.0,
-            norm: 1.0,
-        },
-    }
-}
-
-// The refusal of a colour, 0 where there is none.
-pub fn colour_number(a: Colour) -> u32
-    ensures { result ≡ colour_refusal a }
-{
-    match a {
-        Colour::Is(_) => 0,
-        Colour::Refused(n) => n,
-    }
-}
-
-// The colour and whether its position was inside; where it is refused black, and not inside.
-pub fn colour_value(a: Colour) -> Sample
-    ensures { result ≡ colour_value a }
-{
-    match a {
-        Colour::Is(s) => s,
-        Colour::Refused(_) => Sample {
-            colour: Rgb { r: 0, g: 0, b: 0 },
-            inside: false,
-        },
-    }
-}
-
-// The refusal of marker centres, 0 where there is none.
-pub fn centers_number(a: Centers) -> u32
-    ensures { result ≡ centers_refusal a }
-{
-    match a {
-        Centers::Are(_) => 0,
-        Centers::Refused(n) => n,
-    }
-}
-
-// The centres, all 0 where they are refused.
-pub fn centers_value(a: Centers) -> Quad
-    ensures { result ≡ centers_value a }
-{
-    match a {
-        Centers::Are(q) => q,
-        Centers::Refused(_) => Quad {
-            tl: Point { x: 0.0, y: 0.0 },
-            tr: Point { x: 0.0, y: 0.0 },
-            br: Point { x: 0.0, y: 0.0 },
-            bl: Point { x: 0.0, y: 0.0 },
-        },
+    match answer {
+        Ok(_) => 0,
+        Err(refusal) => refusal.number(),
     }
 }
 
 // The cell of a grade that is outside, else 0.
-pub fn outside_cell(g: Grade) -> u64
-    ensures { result ≡ outside_cell g }
+#[tactic(auto, unfolding(crate::specs::Layouts::outside_cell))]
+pub fn outside_cell(grade: Grade) -> u64
+    ensures { result ≡ outside_cell grade }
 {
-    match g {
-        Grade::Score(_) => 0,
+    match grade {
         Grade::Outside(cell) => cell as u64,
-        Grade::TooFew => 0,
+        Grade::Score(_) | Grade::TooFew => 0,
     }
 }
 
-// A refusal that changes no memory.
+// The number of a refusal that changes no memory.
 pub fn untouched(n: u32) -> bool
     ensures { result ≡ (leb 1 n && leb n 6) }
 {
@@ -141,50 +42,47 @@ pub fn untouched(n: u32) -> bool
 // ---- where a slice of numbers is too short: a lower number that applies, or 3
 
 // What goes before a slice that is too short: 1 for a frame outside its limits, else 3.
-pub fn frame_first(frame: FrameSpec) -> u32
-    ensures { (result ≡ lowest_of (frame_first frame)) × (result ≡ 0 → ⊥) }
+pub fn frame_first(frame: FrameSpec) -> Refusal
+    ensures { number result ≡ lowest_of (frame_first frame) }
 {
     if frame_outside(frame) {
-        return 1;
+        return Refusal::FrameOutside;
     }
-    3
+    Refusal::AreaShort
 }
 
 // The same with the sides of a capture, 2 between them.
-pub fn sides_first(w: usize, h: usize, frame: FrameSpec) -> u32
-    ensures { (result ≡ lowest_of (sides_first w h frame)) × (result ≡ 0 → ⊥) }
+pub fn sides_first(w: usize, h: usize, frame: FrameSpec) -> Refusal
+    ensures { number result ≡ lowest_of (sides_first w h frame) }
 {
     if frame_outside(frame) {
-        return 1;
+        return Refusal::FrameOutside;
     }
     if sides_wrong(w, h) {
-        return 2;
+        return Refusal::CaptureWrong;
     }
-    3
+    Refusal::AreaShort
 }
 
 // The same with a whole capture.
-pub fn capture_first(capture: &[u8], w: usize, h: usize, frame: FrameSpec) -> u32
-    ensures { result ≡ lowest_of (capture_first (image w h capture.now) frame) }
+pub fn capture_first(capture: &[u8], w: usize, h: usize, frame: FrameSpec) -> Refusal
+    ensures { number result ≡ lowest_of (capture_first (image w h capture.now) frame) }
 {
     if frame_outside(frame) {
-        return 1;
+        return Refusal::FrameOutside;
     }
     if capture_wrong(capture, w, h) {
-        return 2;
+        return Refusal::CaptureWrong;
     }
-    3
+    Refusal::AreaShort
 }
 
 // The same with a mask and its sides: 2, else 3.
-pub fn mask_first(mask: usize, w: usize, h: usize) -> u32
-    ensures { result ≡ lowest_of (mask_first mask w h) }
+pub fn mask_first(mask: usize, w: usize, h: usize) -> Refusal
+    ensures { number result ≡ lowest_of (mask_first mask w h) }
 {
-    if sides_wrong(w, h) {
-        return 2;
+    if sides_wrong(w, h) || mask != w * h {
+        return Refusal::CaptureWrong;
     }
-    if mask != w * h {
-        return 2;
-    }
-    3
+    Refusal::AreaShort
 }

@@ -1,35 +1,27 @@
 // Books of fits.
-ghost use Rattle.frame.specs.Answers.{number_as};
-ghost use Rattle.book.specs.Layout.{count_in, book_length};
 ghost use Rattle.book.specs.Promises.{Reading, Writing};
-ghost use Rattle.merge.specs.Merged.{size};
 ghost use Rattle.merge.specs.Promises.{Merging};
+ghost use Rattle.tablet.specs.Slices.{Answering};
 
-use super::answers::count_number;
+use super::answers::number_of;
 
 // Reads a book of fits into two lists. The count of an accepted one is (book.len() - 16) / 120.
 pub fn tablet_read_book(book: &[u8], heads: &mut [u32], numbers: &mut [u64]) -> u32
-    ensures { Reading book.now heads.old numbers.old heads.new
-        numbers.new (number_as result (count_in book.now)) }
+    ensures { Answering result (Reading book.now heads.old numbers.old heads.new numbers.new) }
 {
-    let a = book::read_book(book, heads, numbers);
-    count_number(a)
+    number_of(book::read_book(book, heads, numbers))
 }
 
 // Writes the first `count` records of two lists as a book of 16 + 120 * count bytes.
 pub fn tablet_write_book(heads: &[u32], numbers: &[u64], count: usize, book: &mut [u8]) -> u32
-    ensures { Writing heads.now numbers.now count book.old
-        book.new (number_as result (book_length count)) }
+    ensures { Answering result (Writing heads.now numbers.now count book.old book.new) }
 {
-    let a = book::write_book(heads, numbers, count, book);
-    count_number(a)
+    number_of(book::write_book(heads, numbers, count, book))
 }
 
 // Joins two books. The joined book's length is the fourth number of its header.
 pub fn tablet_merge_books(first: &[u8], second: &[u8], target: &mut [u8]) -> u32
-    ensures { Merging first.now second.now target.old target.new
-        (number_as result (book_length (size first.now second.now))) }
+    ensures { Answering result (Merging first.now second.now target.old target.new) }
 {
-    let a = merge::merge_books(first, second, target);
-    count_number(a)
+    number_of(merge::merge_books(first, second, target))
 }

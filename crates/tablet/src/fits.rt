@@ -1,19 +1,23 @@
 // Fits and their grid score.
+ghost use Rattle.std.specs.Prelude.{◌≡◌, List, [], ◌∷◌, ◌≤◌, length};
 ghost use Rattle.frame.specs.Image.{image};
+ghost use Rattle.frame.specs.Refusals.{Check, number_of, answer_for};
 ghost use Rattle.fit.specs.Fits.{fit_for};
-ghost use Rattle.tablet.specs.Slices.{Answer};
+ghost use Rattle.fit.specs.Grid.{score_of};
+ghost use Rattle.tablet.specs.Slices.{Answer, answered};
 ghost use Rattle.fit.specs.Numbers.{fit_numbers};
-ghost use Rattle.tablet.specs.Layouts.{frame, quad_of};
+ghost use Rattle.tablet.specs.Layouts.{frame, quad_of, grade_numbers};
 ghost use Rattle.tablet.specs.Tests.{fit_tests};
 ghost use Rattle.tablet.specs.Promises.{GridScored};
 
-use super::answers::{capture_first, number_of, outside_cell, sides_first};
-use super::slices::{quad, short, short3, store, store_counts, store_fit};
-use fit::GridScore;
-use fit::internal::{grade_number, score_of};
-use frame::FrameSpec;
+use super::answers::{capture_first, outside_cell, sides_first};
+use super::slices::{quad, store, store_fit};
+use fit::Grade;
+use fit::internal::{fit_of, grade_number, score_of};
+use frame::{FrameSpec, Refusal};
 
 // The fit for a lens term over four observed points.
+#[tactic(auto, unfolding(frame::specs::Refusals::lowest_of))]
 pub fn tablet_fit_for(
     w: usize,
     h: usize,
@@ -29,25 +33,44 @@ pub fn tablet_fit_for(
         fit.old) (fit_numbers (fit_for w h (frame width height cell margin) (quad_of points.now)
         k)) fit.old result fit.new }
 {
-    let f = FrameSpec {
-        width: width,
-        height: height,
-        cell: cell,
-        margin: margin,
+    let frame = FrameSpec {
+        width,
+        height,
+        cell,
+        margin,
     };
-    if short(points.len(), 8, fit.len(), 13) {
-        return sides_first(w, h, f);
+    if points.len() < 8 || fit.len() < 13 {
+        return sides_first(w, h, frame).number();
     }
-    let q = quad(points);
-    let a = fit::fit_for(w, h, f, q, k);
-    let v = a.verdict;
-    let n = number_of(v);
-    if n != 0 {
-        return n;
+    let fitted = fit::fit_for(w, h, frame, quad(points), k);
+    match fitted.verdict {
+        Ok(_) => {
+            store_fit(fit, fitted.fit);
+            0
+        }
+        Err(refusal) => refusal.number(),
     }
-    let t = a.fit;
-    store_fit(fit, t);
-    0
+}
+
+// The number of an answer, with grade and score where it is accepted.
+#[tactic(auto, unfolding(crate::specs::Layouts::grade_numbers))]
+fn answer_graded(answer: Result<Grade, Refusal>, grade: &mut [u64], score: &mut [f64]) -> u32
+    requires grade_long { 2 ≤ length grade.old }
+    requires score_long { 1 ≤ length score.old }
+    ensures number { result ≡ number_of answer }
+    ensures graded { (tests : List Check) (g : Grade) → answer ≡ answer_for tests g
+        → grade.new ≡ answered result (grade_numbers g) grade.old }
+    ensures scored { (tests : List Check) (g : Grade) → answer ≡ answer_for tests g
+        → score.new ≡ answered result (score_of g ∷ []) score.old }
+{
+    match answer {
+        Ok(found) => {
+            store(grade, &[grade_number(found), outside_cell(found)]);
+            store(score, &[score_of(found)]);
+            0
+        }
+        Err(refusal) => refusal.number(),
+    }
 }
 
 // How well a fit of 13 numbers explains the cell grid.
@@ -68,23 +91,15 @@ pub fn tablet_grid_score(
         fit.now means.old means.new grade.old grade.new
         score.old score.new result }
 {
-    let f = FrameSpec {
-        width: width,
-        height: height,
-        cell: cell,
-        margin: margin,
+    let frame = FrameSpec {
+        width,
+        height,
+        cell,
+        margin,
     };
-    if short3(fit.len(), 13, grade.len(), 2, score.len(), 1) {
-        return capture_first(capture, w, h, f);
+    if fit.len() < 13 || grade.len() < 2 || score.len() < 1 {
+        return capture_first(capture, w, h, frame).number();
     }
-    let t = fit::internal::fit_of(fit);
-    let a = fit::grid_score(capture, w, h, f, t, means);
-    match a {
-        GridScore::Refused(n) => n,
-        GridScore::Is(g) => {
-            store_counts(grade, &[grade_number(g), outside_cell(g)]);
-            store(score, &[score_of(g)]);
-            0
-        }
-    }
+    let answer = fit::grid_score(capture, w, h, frame, fit_of(fit), means);
+    answer_graded(answer, grade, score)
 }

@@ -3,66 +3,89 @@ ghost use Rattle.std.specs.Prelude.{◌≡◌, ◌++◌, ◌≤◌, length};
 ghost use Rattle.frame.specs.Image.{image};
 ghost use Rattle.frame.specs.Refusals.{number_of};
 ghost use Rattle.candidates.specs.Areas.{areas};
-ghost use Rattle.tablet.specs.Slices.{answered, told};
+ghost use Rattle.candidates.specs.Promises.{counts_of};
+ghost use Rattle.fiducials.specs.Answers.{places_of, quad_of};
+ghost use Rattle.tablet.specs.Slices.{written, answered, told};
 ghost use Rattle.tablet.specs.Layouts.{frame, list_numbers, place_numbers, quad_numbers};
 ghost use Rattle.tablet.specs.Promises.{ListedOver, DetectedOver};
 
-use super::answers::{capture_first, number_of, untouched};
-use super::slices::{short, store_counts, store_quad};
-use candidates::Listed;
-use fiducials::Detected;
-use frame::FrameSpec;
+use super::answers::{capture_first, untouched};
+use super::slices::{store, store_quad};
+use candidates::{Counts, WorkAreas};
+use fiducials::{Detected, Places};
+use frame::{FrameSpec, Refusal};
 
 // The number of an answer, with the counts of the lists where it is accepted.
-fn answer_listed(a: Listed, counts: &mut [u64]) -> u32
+#[tactic(auto, unfolding(crate::specs::Layouts::list_numbers))]
+fn answer_listed(answer: Result<Counts, Refusal>, counts: &mut [u64]) -> u32
     requires { 3 ≤ length counts.old }
-    ensures { (result ≡ number_of a.verdict) × (counts.new ≡ answered result (list_numbers a.patches
-        a.candidates a.waited) counts.old) }
+    ensures number { result ≡ number_of answer }
+    ensures stored { counts.new ≡ answered result (list_numbers (counts_of answer).patches (counts_of answer).candidates
+        (counts_of answer).waited) counts.old }
 {
-    let v = a.verdict;
-    let n = number_of(v);
-    if n != 0 {
-        return n;
+    match answer {
+        Ok(found) => {
+            store(
+                counts,
+                &[
+                    found.patches as u64,
+                    found.candidates as u64,
+                    found.waited as u64,
+                ],
+            );
+            0
+        }
+        Err(refusal) => refusal.number(),
     }
-    store_counts(
+}
+
+// Writes the counts of the lists and the corners' places.
+#[tactic(auto, unfolding(crate::specs::Layouts::list_numbers, crate::specs::Layouts::place_numbers))]
+fn store_detected(counts: &mut [u64], lists: Counts, places: Places)
+    requires { 7 ≤ length counts.old }
+    ensures { counts.new ≡ written (list_numbers lists.patches lists.candidates lists.waited ++ place_numbers places)
+        counts.old }
+{
+    store(
         counts,
-        &[a.patches as u64, a.candidates as u64, a.waited as u64],
+        &[
+            lists.patches as u64,
+            lists.candidates as u64,
+            lists.waited as u64,
+            places.tl as u64,
+            places.tr as u64,
+            places.br as u64,
+            places.bl as u64,
+        ],
     );
-    0
 }
 
 // The number of an answer, with counts and places unless a test refused, and the points where it
 // is accepted.
-fn answer_detected(a: Detected, counts: &mut [u64], points: &mut [f64]) -> u32
-    requires { (7 ≤ length counts.old) × (8 ≤ length points.old) }
-    ensures { (result ≡ number_of a.verdict) × (counts.new
-        ≡ told result (list_numbers a.patches a.candidates a.waited ++ place_numbers a.places)
-        counts.old) × (points.new ≡ answered result (quad_numbers a.quad) points.old) }
+#[tactic(auto, unfolding(crate::specs::Slices::told, fiducials::specs::Answers::no_places))]
+fn answer_detected(found: Detected, counts: &mut [u64], points: &mut [f64]) -> u32
+    requires counts_long { 7 ≤ length counts.old }
+    requires points_long { 8 ≤ length points.old }
+    ensures number { result ≡ number_of found.corners }
+    ensures counted { counts.new ≡ told result (list_numbers found.counts.patches found.counts.candidates
+        found.counts.waited ++ place_numbers (places_of found.corners)) counts.old }
+    ensures stored { points.new ≡ answered result (quad_numbers (quad_of found.corners)) points.old }
 {
-    let v = a.verdict;
-    let n = number_of(v);
-    if untouched(n) {
-        return n;
+    match found.corners {
+        Ok(corners) => {
+            store_detected(counts, found.counts, corners.places);
+            store_quad(points, corners.quad);
+            0
+        }
+        Err(refusal) => {
+            let number = refusal.number();
+            if untouched(number) {
+                return number;
+            }
+            store_detected(counts, found.counts, Places::default());
+            number
+        }
     }
-    let s = a.places;
-    store_counts(
-        counts,
-        &[
-            a.patches as u64,
-            a.candidates as u64,
-            a.waited as u64,
-            s.tl as u64,
-            s.tr as u64,
-            s.br as u64,
-            s.bl as u64,
-        ],
-    );
-    if n != 0 {
-        return n;
-    }
-    let q = a.quad;
-    store_quad(points, q);
-    0
 }
 
 // Every bullseye-shaped patch in the picture.
@@ -91,19 +114,27 @@ pub fn tablet_fiducial_candidates(
         patches.new candidates.new blob_index.new)
         counts.old counts.new result }
 {
-    let f = FrameSpec {
-        width: width,
-        height: height,
-        cell: cell,
-        margin: margin,
+    let frame = FrameSpec {
+        width,
+        height,
+        cell,
+        margin,
     };
     if counts.len() < 3 {
-        return capture_first(capture, w, h, f);
+        return capture_first(capture, w, h, frame).number();
     }
-    let a = candidates::fiducial_candidates(
-        capture, w, h, f, luma, integral, mask, seen, waiting, patches, candidates, blob_index,
-    );
-    answer_listed(a, counts)
+    let mut work = WorkAreas {
+        luma,
+        integral,
+        mask,
+        seen,
+        waiting,
+        patches,
+        candidates,
+        blob_index,
+    };
+    let answer = candidates::fiducial_candidates(capture, w, h, frame, &mut work);
+    answer_listed(answer, counts)
 }
 
 // The four fiducials, in the order TL, TR, BR, BL.
@@ -133,17 +164,25 @@ pub fn tablet_detect_fiducials(
         patches.new candidates.new blob_index.new)
         counts.old counts.new points.old points.new result }
 {
-    let f = FrameSpec {
-        width: width,
-        height: height,
-        cell: cell,
-        margin: margin,
+    let frame = FrameSpec {
+        width,
+        height,
+        cell,
+        margin,
     };
-    if short(counts.len(), 7, points.len(), 8) {
-        return capture_first(capture, w, h, f);
+    if counts.len() < 7 || points.len() < 8 {
+        return capture_first(capture, w, h, frame).number();
     }
-    let a = fiducials::detect_fiducials(
-        capture, w, h, f, luma, integral, mask, seen, waiting, patches, candidates, blob_index,
-    );
-    answer_detected(a, counts, points)
+    let mut work = WorkAreas {
+        luma,
+        integral,
+        mask,
+        seen,
+        waiting,
+        patches,
+        candidates,
+        blob_index,
+    };
+    let found = fiducials::detect_fiducials(capture, w, h, frame, &mut work);
+    answer_detected(found, counts, points)
 }

@@ -1,39 +1,39 @@
 // Readings, luma, the flat image, and patches.
-ghost use Rattle.std.specs.Prelude.{◌≡◌, [], ◌∷◌, ◌≤◌, length};
-ghost use Rattle.frame.specs.Answers.{number_refusal, number_value};
+ghost use Rattle.std.specs.Prelude.{◌≡◌, ℕ, List, [], ◌∷◌, ◌≤◌, length};
 ghost use Rattle.frame.specs.Image.{image};
+ghost use Rattle.frame.specs.Refusals.{Check, number_of, answer_for};
 ghost use Rattle.sampling.specs.Luma.{luma_of};
 ghost use Rattle.sampling.specs.Reading.{sample_at};
 ghost use Rattle.blobs.specs.Areas.{patch_areas};
+ghost use Rattle.blobs.specs.Promises.{labelled};
 ghost use Rattle.tablet.specs.Slices.{answered, Answer};
 ghost use Rattle.tablet.specs.Layouts.{frame, colour_numbers};
 ghost use Rattle.tablet.specs.Tests.{colour_tests};
 ghost use Rattle.tablet.specs.Promises.{WarpedOver, RecordWarpedOver, LabelledOver};
 
-use super::answers::{
-    capture_first, colour_number, colour_value, count_number, count_value, mask_first, number_of,
-};
-use super::slices::{short, store_bytes, store_counts};
+use super::answers::{capture_first, mask_first};
+use super::slices::store;
+use blobs::Labelled;
 use book::internal::record_at;
-use frame::{FrameSpec, Number};
+use fit::internal::fit_of;
+use frame::{FrameSpec, Refusal, Rgb};
 
 // The colour of a capture at a position, and whether that is inside the picture.
+#[tactic(auto, unfolding(frame::specs::Refusals::answer_for, frame::specs::Refusals::capture_tests, frame::specs::Refusals::lowest_of, crate::specs::Layouts::colour_numbers))]
 pub fn tablet_bilinear(capture: &[u8], w: usize, h: usize, x: f64, y: f64, colour: &mut [u8]) -> u32
     ensures { Answer (colour_tests (image w h capture.now) colour.old) (colour_numbers
         (sample_at (image w h capture.now) (record { x = x; y = y }))) colour.old result
         colour.new }
 {
-    let a = sampling::bilinear(capture, w, h, x, y);
-    let n = colour_number(a);
-    if n != 0 {
-        return n;
-    }
+    let found = match sampling::bilinear(capture, w, h, x, y) {
+        Ok(found) => found,
+        Err(refusal) => return refusal.number(),
+    };
     if colour.len() < 4 {
-        return 3;
+        return Refusal::AreaShort.number();
     }
-    let s = colour_value(a);
-    let c = s.colour;
-    store_bytes(colour, &[c.r, c.g, c.b, s.inside as u8]);
+    let Rgb { r, g, b } = found.colour;
+    store(colour, &[r, g, b, found.inside as u8]);
     0
 }
 
@@ -45,17 +45,20 @@ pub fn tablet_luma(r: u8, g: u8, b: u8) -> f32
 }
 
 // The number of an answer, with its count where it is accepted.
-fn answer_count(a: Number, counts: &mut [u64]) -> u32
+#[tactic(auto, unfolding(frame::specs::Refusals::answer_for))]
+fn answer_count(answer: Result<usize, Refusal>, counts: &mut [u64]) -> u32
     requires { 1 ≤ length counts.old }
-    ensures { (result ≡ number_refusal a) × (counts.new ≡ answered result (number_value a ∷ [])
-        counts.old) }
+    ensures number { result ≡ number_of answer }
+    ensures stored { (tests : List Check) (n : ℕ) → answer ≡ answer_for tests n
+        → counts.new ≡ answered result (n ∷ []) counts.old }
 {
-    let n = count_number(a);
-    if n != 0 {
-        return n;
+    match answer {
+        Ok(count) => {
+            store(counts, &[count as u64]);
+            0
+        }
+        Err(refusal) => refusal.number(),
     }
-    store_counts(counts, &[count_value(a)]);
-    n
 }
 
 // Lays the canonical image out under a fit of 13 numbers, and counts the pixels whose position was
@@ -76,18 +79,17 @@ pub fn tablet_warp_with(
         fit.now canonical.old canonical.new counts.old counts.new
         result }
 {
-    let f = FrameSpec {
-        width: width,
-        height: height,
-        cell: cell,
-        margin: margin,
+    let frame = FrameSpec {
+        width,
+        height,
+        cell,
+        margin,
     };
-    if short(fit.len(), 13, counts.len(), 1) {
-        return capture_first(capture, w, h, f);
+    if fit.len() < 13 || counts.len() < 1 {
+        return capture_first(capture, w, h, frame).number();
     }
-    let t = fit::internal::fit_of(fit);
-    let a = geometry::warp_with(capture, w, h, f, t, canonical);
-    answer_count(a, counts)
+    let answer = geometry::warp_with(capture, w, h, frame, fit_of(fit), canonical);
+    answer_count(answer, counts)
 }
 
 // The same under a book's record: its grade, and the 13 bit patterns of its fit.
@@ -108,18 +110,34 @@ pub fn tablet_warp_record(
         numbers.now canonical.old canonical.new counts.old
         counts.new result }
 {
-    let f = FrameSpec {
-        width: width,
-        height: height,
-        cell: cell,
-        margin: margin,
+    let frame = FrameSpec {
+        width,
+        height,
+        cell,
+        margin,
     };
-    if short(numbers.len(), 13, counts.len(), 1) {
-        return capture_first(capture, w, h, f);
+    if numbers.len() < 13 || counts.len() < 1 {
+        return capture_first(capture, w, h, frame).number();
     }
     let kept = record_at(&[0, 0, grade], numbers, 0);
-    let a = geometry::warp_record(capture, w, h, f, kept, canonical);
-    answer_count(a, counts)
+    let answer = geometry::warp_record(capture, w, h, frame, kept, canonical);
+    answer_count(answer, counts)
+}
+
+// The number of an answer, with its counts where it is accepted.
+fn answer_labelled(answer: Result<Labelled, Refusal>, counts: &mut [u64]) -> u32
+    requires { 2 ≤ length counts.old }
+    ensures number { result ≡ number_of answer }
+    ensures stored { counts.new ≡ answered result ((labelled answer).patches ∷ (labelled answer).waited ∷ [])
+        counts.old }
+{
+    match answer {
+        Ok(found) => {
+            store(counts, &[found.patches as u64, found.waited as u64]);
+            0
+        }
+        Err(refusal) => refusal.number(),
+    }
 }
 
 // Labels the patches of a mask.
@@ -138,14 +156,8 @@ pub fn tablet_label_blobs(
         counts.old counts.new result }
 {
     if counts.len() < 2 {
-        return mask_first(mask.len(), w, h);
+        return mask_first(mask.len(), w, h).number();
     }
-    let a = blobs::label_blobs(mask, w, h, seen, waiting, patches);
-    let v = a.verdict;
-    let n = number_of(v);
-    if n != 0 {
-        return n;
-    }
-    store_counts(counts, &[a.patches as u64, a.waited as u64]);
-    0
+    let answer = blobs::label_blobs(mask, w, h, seen, waiting, patches);
+    answer_labelled(answer, counts)
 }

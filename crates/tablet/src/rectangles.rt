@@ -1,5 +1,4 @@
 // Rectangles over a patch list.
-ghost use Rattle.frame.specs.Refusals.{verdict_of};
 ghost use Rattle.windows.specs.Promises.{Windowing};
 
 use super::answers::number_of;
@@ -12,9 +11,7 @@ pub fn tablet_patch_windows(
     k: usize,
     answers: &mut [u64],
 ) -> u32
-    ensures { Windowing patches.now n windows.now k answers.old
-        answers.new (verdict_of result) }
+    ensures { Windowing patches.now n windows.now k answers.old answers.new result }
 {
-    let v = windows::patch_windows(patches, n, windows, k, answers);
-    number_of(v)
+    number_of(windows::patch_windows(patches, n, windows, k, answers))
 }

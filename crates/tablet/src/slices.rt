@@ -1,5 +1,5 @@
 // Numbers out of slices, and into them.
-ghost use Rattle.std.specs.Prelude.{◌≡◌, false, ◌||◌, ◌≤◌, ltb, length};
+ghost use Rattle.std.specs.Prelude.{◌≡◌, ◌≤◌, length};
 ghost use Rattle.tablet.specs.Slices.{written};
 ghost use Rattle.tablet.specs.Layouts.{quad_of, lens_of, point_numbers, quad_numbers};
 ghost use Rattle.fit.specs.Numbers.{lens_numbers, matrix_numbers, fit_numbers};
@@ -10,23 +10,10 @@ use frame::{Point, Quad};
 use homography::Mat3;
 use radial::Radial;
 
-// One of two slices, of a and b entries, is shorter than m or n.
-pub fn short(a: usize, m: usize, b: usize, n: usize) -> bool
-    ensures { (result ≡ (ltb a m || ltb b n)) × (result ≡ false → (m ≤ a) × (n ≤ b)) }
-{
-    (a < m) | (b < n)
-}
-
-// .. or a third, of d entries, than k.
-pub fn short3(a: usize, m: usize, b: usize, n: usize, d: usize, k: usize) -> bool
-    ensures { (result ≡ (ltb a m || ltb b n || ltb d k)) × (result ≡ false → (m ≤ a) × (n ≤ b) × (k ≤ d)) }
-{
-    (a < m) | (b < n) | (d < k)
-}
-
 // ---- out of a slice
 
 // Eight numbers as four points, x and y of TL, TR, BR, BL.
+#[tactic(auto, unfolding(crate::specs::Layouts::quad_of))]
 pub fn quad(l: &[f64]) -> Quad
     requires { 8 ≤ length l.now }
     ensures { result ≡ quad_of l.now }
@@ -40,6 +27,7 @@ pub fn quad(l: &[f64]) -> Quad
 }
 
 // Four numbers as a lens: k, cx, cy, norm.
+#[tactic(auto, unfolding(crate::specs::Layouts::lens_of))]
 pub fn lens(l: &[f64]) -> Radial
     requires { 4 ≤ length l.now }
     ensures { result ≡ lens_of l.now }
@@ -55,36 +43,16 @@ pub fn lens(l: &[f64]) -> Radial
 // ---- into a slice: the values go over its start
 
 // Writes the values over the start of a slice.
-pub fn store(out: &mut [f64], values: &[f64])
+#[tactic(auto, unfolding(crate::specs::Slices::written))]
+pub fn store<T: Copy>(out: &mut [T], values: &[T])
     requires { length values.now ≤ length out.old }
     ensures { out.new ≡ written values.now out.old }
 {
-    for i in 0..values.len() {
-        out[i] = values[i];
-    }
-}
-
-// The same for whole numbers.
-pub fn store_counts(out: &mut [u64], values: &[u64])
-    requires { length values.now ≤ length out.old }
-    ensures { out.new ≡ written values.now out.old }
-{
-    for i in 0..values.len() {
-        out[i] = values[i];
-    }
-}
-
-// The same for bytes.
-pub fn store_bytes(out: &mut [u8], values: &[u8])
-    requires { length values.now ≤ length out.old }
-    ensures { out.new ≡ written values.now out.old }
-{
-    for i in 0..values.len() {
-        out[i] = values[i];
-    }
+    out[..values.len()].copy_from_slice(values);
 }
 
 // Writes a point as two numbers.
+#[tactic(auto, unfolding(crate::specs::Layouts::point_numbers))]
 pub fn store_point(out: &mut [f64], p: Point)
     requires { 2 ≤ length out.old }
     ensures { out.new ≡ written (point_numbers p) out.old }
@@ -93,6 +61,7 @@ pub fn store_point(out: &mut [f64], p: Point)
 }
 
 // Writes four points as eight numbers, TL, TR, BR, BL.
+#[tactic(auto, unfolding(crate::specs::Layouts::quad_numbers))]
 pub fn store_quad(out: &mut [f64], q: Quad)
     requires { 8 ≤ length out.old }
     ensures { out.new ≡ written (quad_numbers q) out.old }
@@ -106,6 +75,7 @@ pub fn store_quad(out: &mut [f64], q: Quad)
 }
 
 // Writes a lens as four numbers.
+#[tactic(auto, unfolding(fit::specs::Numbers::lens_numbers))]
 pub fn store_lens(out: &mut [f64], l: Radial)
     requires { 4 ≤ length out.old }
     ensures { out.new ≡ written (lens_numbers l) out.old }
@@ -114,18 +84,19 @@ pub fn store_lens(out: &mut [f64], l: Radial)
 }
 
 // Writes a matrix as nine numbers, by rows.
+#[tactic(auto, unfolding(fit::specs::Numbers::matrix_numbers))]
 pub fn store_matrix(out: &mut [f64], m: Mat3)
     requires { 9 ≤ length out.old }
     ensures { out.new ≡ written (matrix_numbers m) out.old }
 {
-    store(out, &[m[0], m[1], m[2], m[3], m[4], m[5], m[6], m[7], m[8]]);
+    store(out, &m);
 }
 
 // Writes a fit as thirteen numbers: the matrix, then the lens.
+#[tactic(auto, unfolding(fit::specs::Numbers::fit_numbers, fit::specs::Numbers::matrix_numbers, fit::specs::Numbers::lens_numbers))]
 pub fn store_fit(out: &mut [f64], fit: GeometryFit)
     requires { 13 ≤ length out.old }
     ensures { out.new ≡ written (fit_numbers fit) out.old }
 {
-    let numbers = fit_numbers(fit);
-    store(out, &numbers);
+    store(out, &fit_numbers(fit));
 }

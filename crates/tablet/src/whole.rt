@@ -7,8 +7,9 @@ ghost use Rattle.tablet.specs.Slices.{written};
 ghost use Rattle.tablet.specs.Layouts.{frame};
 ghost use Rattle.tablet.specs.Whole as whole;
 
-use super::answers::{capture_first, number_of, outside_cell, untouched};
-use super::slices::{short, store, store_counts};
+use super::answers::{capture_first, outside_cell, untouched};
+use super::slices::{store, store_fit};
+use candidates::WorkAreas;
 use fit::internal::{grade_number, score_of};
 use fit_geometry::PictureFit;
 use frame::FrameSpec;
@@ -18,6 +19,7 @@ use search::Outcome;
 // ---- the kept trial's numbers
 
 // The kept trial's grade as a number: 0 scored, 1 outside, 2 too few, 3 none.
+#[tactic(auto, unfolding(crate::specs::Whole::kept_number))]
 fn kept_number(kept: Outcome) -> u64
     ensures { result ≡ whole.kept_number kept }
 {
@@ -28,6 +30,7 @@ fn kept_number(kept: Outcome) -> u64
 }
 
 // The outside cell of the kept trial, else 0.
+#[tactic(auto, unfolding(crate::specs::Whole::kept_cell))]
 fn kept_cell(kept: Outcome) -> u64
     ensures { result ≡ whole.kept_cell kept }
 {
@@ -38,11 +41,12 @@ fn kept_cell(kept: Outcome) -> u64
 }
 
 // The kept trial's score, −∞ where it has none.
+#[tactic(auto, unfolding(crate::specs::Whole::kept_score))]
 fn kept_score(kept: Outcome) -> f64
     ensures { result ≡ whole.kept_score kept }
 {
     match kept {
-        Outcome::NoHomography => -(1.0 / 0.0),
+        Outcome::NoHomography => f64::NEG_INFINITY,
         Outcome::Graded(g) => score_of(g),
     }
 }
@@ -50,83 +54,78 @@ fn kept_score(kept: Outcome) -> f64
 // ---- an answer into the slices
 
 // Writes the eleven counts of an answer.
-fn store_found(counts: &mut [u64], a: PictureFit)
+#[tactic(auto, unfolding(crate::specs::Whole::found_numbers, crate::specs::Layouts::list_numbers, crate::specs::Layouts::place_numbers, fiducials::specs::Answers::no_places))]
+fn store_found(counts: &mut [u64], found: PictureFit)
     requires { 11 ≤ length counts.old }
-    ensures { counts.new ≡ written (whole.found_numbers a) counts.old }
+    ensures { counts.new ≡ written (whole.found_numbers found) counts.old }
 {
-    let places = a.places;
-    let kept = a.kept;
-    let grade = kept_number(kept);
-    let cell = kept_cell(kept);
-    store_counts(
+    let places = found.places.unwrap_or_default();
+    let kept = found.stage.kept;
+    store(
         counts,
         &[
-            a.patches as u64,
-            a.candidates as u64,
-            a.waited as u64,
+            found.counts.patches as u64,
+            found.counts.candidates as u64,
+            found.counts.waited as u64,
             places.tl as u64,
             places.tr as u64,
             places.br as u64,
             places.bl as u64,
-            a.tried as u64,
-            a.homographies as u64,
-            grade,
-            cell,
+            found.stage.tried as u64,
+            found.stage.homographies as u64,
+            kept_number(kept),
+            kept_cell(kept),
         ],
     );
 }
 
 // Writes the fit and its score as fourteen numbers.
-fn store_scored(fit: &mut [f64], a: PictureFit)
+fn store_scored(fit: &mut [f64], found: PictureFit)
     requires { 14 ≤ length fit.old }
-    ensures { fit.new ≡ written (whole.scored_fit a) fit.old }
+    ensures { fit.new ≡ written (whole.scored_fit found) fit.old }
 {
-    let t = a.fit;
-    let h = t.h;
-    let m = h.m;
-    let l = t.radial;
-    let kept = a.kept;
-    let score = kept_score(kept);
-    store(
-        fit,
-        &[
-            m[0], m[1], m[2], m[3], m[4], m[5], m[6], m[7], m[8], l.k, l.cx, l.cy, l.norm, score,
-        ],
-    );
+    store_fit(fit, found.stage.fit);
+    fit[13] = kept_score(found.stage.kept);
 }
 
 // The number of an answer, with the counts unless a test refused and the fit where it is accepted.
-fn tell(a: PictureFit, counts: &mut [u64], fit: &mut [f64]) -> u32
-    requires { (11 ≤ length counts.old) × (14 ≤ length fit.old) }
-    ensures { whole.Told a (whole.found_numbers a) counts.old counts.new fit.old
+#[tactic(auto, unfolding(crate::specs::Slices::told))]
+fn tell(found: PictureFit, counts: &mut [u64], fit: &mut [f64]) -> u32
+    requires counts_long { 11 ≤ length counts.old }
+    requires fit_long { 14 ≤ length fit.old }
+    ensures { whole.Told found (whole.found_numbers found) counts.old counts.new fit.old
         fit.new result }
 {
-    let verdict = a.verdict;
-    let n = number_of(verdict);
-    if untouched(n) {
-        return n;
+    match found.places {
+        Ok(_) => {
+            store_found(counts, found);
+            store_scored(fit, found);
+            0
+        }
+        Err(refusal) => {
+            let number = refusal.number();
+            if untouched(number) {
+                return number;
+            }
+            store_found(counts, found);
+            number
+        }
     }
-    store_found(counts, a);
-    if n != 0 {
-        return n;
-    }
-    store_scored(fit, a);
-    n
 }
 
 // The same with the twelfth count, of an answer of `rectify`.
-fn tell_flat(a: Rectified, counts: &mut [u64], fit: &mut [f64]) -> u32
-    requires { (12 ≤ length counts.old) × (14 ≤ length fit.old) }
-    ensures { whole.Told a.picture (whole.flat_numbers a.picture a.beyond) counts.old
+fn tell_flat(flat: Rectified, counts: &mut [u64], fit: &mut [f64]) -> u32
+    requires counts_long { 12 ≤ length counts.old }
+    requires fit_long { 14 ≤ length fit.old }
+    ensures { whole.Told flat.picture (whole.flat_numbers flat.picture flat.beyond) counts.old
         counts.new fit.old fit.new result }
 {
-    let picture = a.picture;
-    let n = tell(picture, counts, fit);
-    if untouched(n) {
-        return n;
+    let number = tell(flat.picture, counts, fit);
+    if untouched(number) {
+        return number;
     }
-    counts[11] = a.beyond as u64;
-    n
+    counts[11] = flat.beyond as u64;
+    number
 }
 
 // ---- the exported functions
@@ -160,20 +159,27 @@ pub fn tablet_fit_geometry(
         means.old means.new counts.old counts.new fit.old
         fit.new result }
 {
-    let f = FrameSpec {
-        width: width,
-        height: height,
-        cell: cell,
-        margin: margin,
+    let frame = FrameSpec {
+        width,
+        height,
+        cell,
+        margin,
     };
-    if short(counts.len(), 11, fit.len(), 14) {
-        return capture_first(capture, w, h, f);
+    if counts.len() < 11 || fit.len() < 14 {
+        return capture_first(capture, w, h, frame).number();
     }
-    let a = fit_geometry::fit_geometry(
-        capture, w, h, f, luma, integral, mask, seen, waiting, patches, candidates, blob_index,
-        means,
-    );
-    tell(a, counts, fit)
+    let mut work = WorkAreas {
+        luma,
+        integral,
+        mask,
+        seen,
+        waiting,
+        patches,
+        candidates,
+        blob_index,
+    };
+    let found = fit_geometry::fit_geometry(capture, w, h, frame, &mut work, means);
+    tell(found, counts, fit)
 }
 
 // The flat card of a capture.
@@ -207,18 +213,25 @@ pub fn tablet_rectify(
         means.new canonical.new)
         counts.old counts.new fit.old fit.new result }
 {
-    let f = FrameSpec {
-        width: width,
-        height: height,
-        cell: cell,
-        margin: margin,
+    let frame = FrameSpec {
+        width,
+        height,
+        cell,
+        margin,
     };
-    if short(counts.len(), 12, fit.len(), 14) {
-        return capture_first(capture, w, h, f);
+    if counts.len() < 12 || fit.len() < 14 {
+        return capture_first(capture, w, h, frame).number();
     }
-    let a = geometry::rectify(
-        capture, w, h, f, luma, integral, mask, seen, waiting, patches, candidates, blob_index,
-        means, canonical,
-    );
-    tell_flat(a, counts, fit)
+    let mut work = WorkAreas {
+        luma,
+        integral,
+        mask,
+        seen,
+        waiting,
+        patches,
+        candidates,
+        blob_index,
+    };
+    let flat = geometry::rectify(capture, w, h, frame, &mut work, means, canonical);
+    tell_flat(flat, counts, fit)
 }

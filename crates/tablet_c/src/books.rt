@@ -1,15 +1,12 @@
 // Books of fits.
-ghost use Rattle.frame.specs.Answers.{number_as};
-ghost use Rattle.book.specs.Layout.{count_in, book_length};
 ghost use Rattle.book.specs.Promises.{Reading, Writing};
-ghost use Rattle.merge.specs.Merged.{size};
 ghost use Rattle.merge.specs.Promises.{Merging};
+ghost use Rattle.tablet.specs.Slices.{Answering};
 
 // Reads a book of fits into two lists. The count of an accepted one is (book.len() - 16) / 120.
 #[unsafe(no_mangle)]
 pub extern "C" fn tablet_read_book(book: &[u8], heads: &mut [u32], numbers: &mut [u64]) -> u32
-    ensures { Reading book.now heads.old numbers.old heads.new
-        numbers.new (number_as result (count_in book.now)) }
+    ensures { Answering result (Reading book.now heads.old numbers.old heads.new numbers.new) }
 {
     tablet::tablet_read_book(book, heads, numbers)
 }
@@ -22,8 +19,7 @@ pub extern "C" fn tablet_write_book(
     count: usize,
     book: &mut [u8],
 ) -> u32
-    ensures { Writing heads.now numbers.now count book.old
-        book.new (number_as result (book_length count)) }
+    ensures { Answering result (Writing heads.now numbers.now count book.old book.new) }
 {
     tablet::tablet_write_book(heads, numbers, count, book)
 }
@@ -31,8 +27,7 @@ pub extern "C" fn tablet_write_book(
 // Joins two books. The joined book's length is the fourth number of its header.
 #[unsafe(no_mangle)]
 pub extern "C" fn tablet_merge_books(first: &[u8], second: &[u8], target: &mut [u8]) -> u32
-    ensures { Merging first.now second.now target.old target.new
-        (number_as result (book_length (size first.now second.now))) }
+    ensures { Answering result (Merging first.now second.now target.old target.new) }
 {
     tablet::tablet_merge_books(first, second, target)
 }

@@ -1,7 +1,6 @@
 // Frames: cells, markers, and the smallest lengths of the slices.
 ghost use Rattle.std.specs.Prelude.{[], ◌∷◌};
 ghost use Rattle.frame.specs.Frame.{cols, rows};
-ghost use Rattle.frame.specs.Refusals.{verdict_of};
 ghost use Rattle.markers.specs.Promises.{Stamping};
 ghost use Rattle.markers.specs.Layout.{marker_size, quiet_zone, margin_for, marker_centers};
 ghost use Rattle.tablet.specs.Slices.{Answer};
@@ -78,7 +77,7 @@ pub extern "C" fn tablet_stamp_fiducials(
     margin: usize,
 ) -> u32
     ensures { Stamping (record { w = w; h = h; bytes = image.old }) (frame width height cell margin)
-        (verdict_of result) image.new }
+        result image.new }
 {
     tablet::tablet_stamp_fiducials(image, w, h, width, height, cell, margin)
 }

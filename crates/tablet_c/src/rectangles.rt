@@ -1,5 +1,4 @@
 // Rectangles over a patch list.
-ghost use Rattle.frame.specs.Refusals.{verdict_of};
 ghost use Rattle.windows.specs.Promises.{Windowing};
 
 // Which of the first n patches k rectangles touch, and which is nearest to each.
@@ -12,7 +11,7 @@ pub extern "C" fn tablet_patch_windows(
     answers: &mut [u64],
 ) -> u32
     ensures { Windowing patches.now n windows.now k answers.old
-        answers.new (verdict_of result) }
+        answers.new result }
 {
     tablet::tablet_patch_windows(patches, n, windows, k, answers)
 }

@@ -5,10 +5,18 @@
 
 ghost use Rattle.std.specs.Prelude.{◌≤◌};
 
-use base::min;
+use blobs::Labelled;
 use console::Console;
-use frame::Verdict;
+use frame::Refusal;
 use std::io;
+
+// The areas of a mask of 64 by 64 pixels.
+#[derive(Drop)]
+struct Areas {
+    seen: [u8; 4096],
+    waiting: [u32; 4096],
+    patches: [u64; 16384],
+}
 
 fn main(rt: HostRuntime) -> io::Result<()> {
     let mut console = Console::new(rt);
@@ -18,28 +26,20 @@ fn main(rt: HostRuntime) -> io::Result<()> {
     console.finish()
 }
 
-// The areas are those of a mask of 64 by 64 pixels, and are not cleared between two masks.
+// The areas are not cleared between two masks.
 fn label_all(console: &mut Console, input: &[u8]) {
-    let mut seen = [9u8; 4096];
-    let mut waiting = [9u32; 4096];
-    let mut patches = [9u64; 16384];
-    let mut at = 0;
-    while 16 <= input.len() - at {
-        let start = at + 16;
-        let head = &input[at..start];
-        let w = vectors::word(head, 0) as usize;
-        let h = vectors::word(head, 1) as usize;
-        let end = min(start + pixels(w, h), input.len());
-        label(
-            console,
-            &input[start..end],
-            w,
-            h,
-            &mut seen,
-            &mut waiting,
-            &mut patches,
-        );
-        at = end;
+    let mut areas = Areas {
+        seen: [9; 4096],
+        waiting: [9; 4096],
+        patches: [9; 16384],
+    };
+    let mut rest = input;
+    while 16 <= rest.len() {
+        let w = vectors::word(rest, 0) as usize;
+        let h = vectors::word(rest, 1) as usize;
+        let end = (16 + pixels(w, h)).min(rest.len());
+        label(console, &rest[16..end], w, h, &mut areas);
+        rest = &rest[end..];
     }
 }
 
@@ -47,46 +47,38 @@ fn label_all(console: &mut Console, input: &[u8]) {
 fn pixels(w: usize, h: usize) -> usize
     ensures { result ≤ 4096 }
 {
-    if w > 64 {
-        return 0;
-    }
-    if h > 64 {
-        return 0;
-    }
-    w * h
+    if w > 64 || h > 64 { 0 } else { w * h }
 }
 
-fn label(
-    console: &mut Console,
-    mask: &[u8],
-    w: usize,
-    h: usize,
-    seen: &mut [u8; 4096],
-    waiting: &mut [u32; 4096],
-    patches: &mut [u64; 16384],
-) {
-    let r = blobs::label_blobs(mask, w, h, seen, waiting, patches);
+fn label(console: &mut Console, mask: &[u8], w: usize, h: usize, areas: &mut Areas) {
+    let answer = blobs::label_blobs(
+        mask,
+        w,
+        h,
+        &mut areas.seen,
+        &mut areas.waiting,
+        &mut areas.patches,
+    );
     print(console, w);
     console.text(b" ");
     print(console, h);
-    let verdict = r.verdict;
-    match verdict {
-        Verdict::Accepted => found(console, r.patches, r.waited),
-        Verdict::Refused(n) => refused(console, n),
+    match answer {
+        Ok(labelled) => found(console, labelled),
+        Err(refusal) => refused(console, refusal),
     }
     console.text(b"\n");
 }
 
-fn found(console: &mut Console, patches: usize, waited: usize) {
+fn found(console: &mut Console, labelled: Labelled) {
     console.text(b" ");
-    print(console, patches);
+    print(console, labelled.patches);
     console.text(b" ");
-    print(console, waited);
+    print(console, labelled.waited);
 }
 
-fn refused(console: &mut Console, n: u32) {
+fn refused(console: &mut Console, refusal: Refusal) {
     console.text(b" refused ");
-    print(console, n as usize);
+    console.decimal(refusal.number() as u64);
 }
 
 fn print(console: &mut Console, n: usize) {

@@ -2,12 +2,12 @@
 // says what stdin and stdout hold, and how to make them again.
 #![tactic(auto)]
 
-use base::min;
+use candidates::WorkAreas;
 use console::Console;
 use fiducials::Places;
 use fit::{GeometryFit, Grade};
 use fit_geometry::PictureFit;
-use frame::{FrameSpec, Verdict};
+use frame::{FrameSpec, Refusal};
 use search::Outcome;
 use std::io;
 
@@ -52,7 +52,7 @@ fn main(rt: HostRuntime) -> io::Result<()> {
 
 // Reads the capture behind the record.
 fn load(console: &mut Console, b: &[u8], capture: &mut [u8]) {
-    let bytes = min(size_at(b, 6), capture.len());
+    let bytes = size_at(b, 6).min(capture.len());
     console.read_full(&mut capture[..bytes]);
 }
 
@@ -71,13 +71,9 @@ fn answer(
     blob_index: &mut [u32; 1250],
     means: &mut [f64],
 ) {
-    let bytes = min(size_at(b, 6), capture.len());
-    let cells = min(size_at(b, 7), means.len());
-    let r = fit_geometry::fit_geometry(
-        &capture[..bytes],
-        size_at(b, 0),
-        size_at(b, 1),
-        frame_at(b),
+    let bytes = size_at(b, 6).min(capture.len());
+    let cells = size_at(b, 7).min(means.len());
+    let mut work = WorkAreas {
         luma,
         integral,
         mask,
@@ -86,6 +82,13 @@ fn answer(
         patches,
         candidates,
         blob_index,
+    };
+    let r = fit_geometry::fit_geometry(
+        &capture[..bytes],
+        size_at(b, 0),
+        size_at(b, 1),
+        frame_at(b),
+        &mut work,
         &mut means[..cells],
     );
     print(console, r);
@@ -98,15 +101,11 @@ fn size_at(b: &[u8], i: usize) -> usize {
 }
 
 fn frame_at(b: &[u8]) -> FrameSpec {
-    let width = size_at(b, 2);
-    let height = size_at(b, 3);
-    let cell = size_at(b, 4);
-    let margin = size_at(b, 5);
     FrameSpec {
-        width: width,
-        height: height,
-        cell: cell,
-        margin: margin,
+        width: size_at(b, 2),
+        height: size_at(b, 3),
+        cell: size_at(b, 4),
+        margin: size_at(b, 5),
     }
 }
 
@@ -122,23 +121,19 @@ fn print_float(console: &mut Console, x: f64) {
 }
 
 fn print(console: &mut Console, r: PictureFit) {
-    let verdict = r.verdict;
-    let places = r.places;
-    let fit = r.fit;
-    let kept = r.kept;
-    match verdict {
-        Verdict::Accepted => {
+    match r.places {
+        Ok(places) => {
             print_word(console, 0);
-            print_counts(console, r.patches, r.candidates);
+            print_counts(console, r.counts.patches, r.counts.candidates);
             print_places(console, places);
-            print_fit(console, fit);
-            print_kept(console, kept);
-            print_counts(console, r.tried, r.homographies);
+            print_fit(console, r.stage.fit);
+            print_kept(console, r.stage.kept);
+            print_counts(console, r.stage.tried, r.stage.homographies);
         }
-        Verdict::Refused(n) => {
-            print_word(console, n as u64);
-            if n == 7 {
-                print_counts(console, r.patches, r.candidates);
+        Err(refusal) => {
+            print_word(console, u64::from(refusal.number()));
+            if refusal == Refusal::FewCandidates {
+                print_counts(console, r.counts.patches, r.counts.candidates);
             }
         }
     }
@@ -155,20 +150,14 @@ fn print_places(console: &mut Console, p: Places) {
 }
 
 fn print_fit(console: &mut Console, fit: GeometryFit) {
-    let h = fit.h;
-    let m = h.m;
-    print_matrix(console, m);
+    for x in fit.h.m {
+        print_float(console, x);
+    }
     let lens = fit.radial;
     print_float(console, lens.k);
     print_float(console, lens.cx);
     print_float(console, lens.cy);
     print_float(console, lens.norm);
-}
-
-fn print_matrix(console: &mut Console, m: [f64; 9]) {
-    for i in 0..9 {
-        print_float(console, m[i]);
-    }
 }
 
 fn print_kept(console: &mut Console, o: Outcome) {

@@ -63,18 +63,16 @@ pub fn headed(head: &[u8]) -> Sizes
     let h = vectors::word(head, 1) as usize;
     let width = vectors::word(head, 2) as usize;
     let height = vectors::word(head, 3) as usize;
-    let cell = vectors::word(head, 4) as usize;
-    let margin = vectors::word(head, 5) as usize;
     let frame = FrameSpec {
-        width: width,
-        height: height,
-        cell: cell,
-        margin: margin,
+        width,
+        height,
+        cell: vectors::word(head, 4) as usize,
+        margin: vectors::word(head, 5) as usize,
     };
     Sizes {
-        w: w,
-        h: h,
-        frame: frame,
+        w,
+        h,
+        frame,
         pixels: product(w, h, 200),
         bytes: 3 * product(width, height, 600),
     }
@@ -85,10 +83,7 @@ fn product(a: usize, b: usize, most: usize) -> usize
     requires { most ≤ 4096 }
     ensures { result ≤ most * most }
 {
-    if a > most {
-        return 0;
-    }
-    if b > most {
+    if a > most || b > most {
         return 0;
     }
     a * b

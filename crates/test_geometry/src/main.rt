@@ -18,7 +18,9 @@
 mod file; // file.rt: a capture file
 mod print; // print.rt: an answer's lines
 
+use candidates::WorkAreas;
 use console::Console;
+use frame::Refusal;
 use std::io;
 
 fn main(rt: HostRuntime) -> io::Result<()> {
@@ -84,31 +86,39 @@ fn answer(
 ) {
     let s = file::headed(head);
     print::head(console, number, s);
-    let frame = s.frame;
-    let bytes = s.bytes;
     let card: &mut [u8] = canonical;
+    let mut work = WorkAreas {
+        luma: &mut *luma,
+        integral: &mut *integral,
+        mask: &mut *mask,
+        seen: &mut *seen,
+        waiting: &mut *waiting,
+        patches: &mut *patches,
+        candidates: &mut *candidates,
+        blob_index: &mut *blob_index,
+    };
     let r = geometry::rectify(
         capture,
         s.w,
         s.h,
-        frame,
-        luma,
-        integral,
-        mask,
-        seen,
-        waiting,
-        patches,
-        candidates,
-        blob_index,
+        s.frame,
+        &mut work,
         means,
-        &mut card[..bytes],
+        &mut card[..s.bytes],
     );
-    let refusal = print::answer(console, r, s, mask, patches, candidates, blob_index, card);
-    if refusal == 16 {
-        let fit = fit_geometry::fit_geometry(
-            capture, s.w, s.h, frame, luma, integral, mask, seen, waiting, patches, candidates,
-            blob_index, means,
-        );
+    print::answer(console, r, s, mask, patches, candidates, blob_index, card);
+    if let Err(Refusal::Unscored) = r.picture.places {
+        let mut work = WorkAreas {
+            luma,
+            integral,
+            mask,
+            seen,
+            waiting,
+            patches,
+            candidates,
+            blob_index,
+        };
+        let fit = fit_geometry::fit_geometry(capture, s.w, s.h, s.frame, &mut work, means);
         print::fitted(console, fit);
     }
 }

@@ -3,10 +3,8 @@
 // host/vectors/most_patches.py says what stdin and stdout hold, and how to make them again.
 #![tactic(auto)]
 
-ghost use Rattle.std.specs.Prelude.{◌≡◌, ℕ, min, length, get_or};
-ghost use Rattle.base.specs.Loops.{filled};
+ghost use Rattle.std.specs.Prelude.{◌≡◌, ◌++◌, min, length, take, drop};
 
-use base::min;
 use console::Console;
 use std::io;
 
@@ -20,17 +18,13 @@ fn main(rt: HostRuntime) -> io::Result<()> {
         if n < 2 {
             break;
         }
-        call(&mut console, head[0], wide(head[1]), &mut text);
+        call(&mut console, head[0], head[1] as usize, &mut text);
     }
     console.finish()
 }
 
-fn wide(x: u8) -> usize {
-    x as usize
-}
-
 fn call(console: &mut Console, kind: u8, length: usize, text: &mut [u8]) {
-    let n = min(length, text.len());
+    let n = length.min(text.len());
     answer(console, kind, &mut text[..n]);
 }
 
@@ -57,18 +51,16 @@ fn count(console: &mut Console, text: &[u8]) {
 }
 
 fn print_line(console: &mut Console, text: &[u8]) {
-    let end = min(patch_text::internal::line_length(text) + 1, text.len());
+    let end = (patch_text::internal::line_length(text) + 1).min(text.len());
     console.text(&text[..end]);
 }
 
 // Of a text as much as a program reads: as many bytes as fit, or all.
 fn copy(text: &[u8], input: &mut [u8]) -> usize
     ensures { (result ≡ min (length text.now) (length input.old))
-        × (input.new ≡ filled (λ (i : ℕ). get_or text.now i 0) result input.old) }
+        × (input.new ≡ take result text.now ++ drop result input.old) }
 {
-    let n = min(text.len(), input.len());
-    for i in 0..n {
-        input[i] = text[i];
-    }
+    let n = text.len().min(input.len());
+    input[..n].copy_from_slice(&text[..n]);
     n
 }

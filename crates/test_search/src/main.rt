@@ -4,15 +4,14 @@
 
 ghost use Rattle.std.specs.Prelude.{◌+◌, ◌≤◌};
 
-use base::min;
 use console::Console;
 use fit::internal::sampled_cells;
 use fit::{GeometryFit, Grade};
-use frame::internal::{capture_wrong, frame_outside};
-use frame::{FrameSpec, Point, Quad};
+use frame::{CheckedFrame, FrameSpec, Point, Quad, Refusal};
 use search::internal::search;
 use search::{Outcome, Stage};
 use std::io;
+use view::RgbImage;
 
 // A record at a time, to the end of stdin. The means are not cleared between two records.
 fn main(rt: HostRuntime) -> io::Result<()> {
@@ -33,14 +32,13 @@ fn main(rt: HostRuntime) -> io::Result<()> {
 
 // Reads the capture behind the record; none keeps the one before.
 fn load(console: &mut Console, b: &[u8], capture: &mut [u8]) {
-    let n = min(size_at(b, 0), capture.len());
+    let n = size_at(b, 0).min(capture.len());
     console.read_full(&mut capture[..n]);
 }
 
 fn answer(console: &mut Console, b: &[u8], capture: &[u8], means: &mut [f64]) {
-    let n = min(size_at(b, 1), capture.len());
-    searched(
-        console,
+    let n = size_at(b, 1).min(capture.len());
+    let searched = searched(
         &capture[..n],
         size_at(b, 2),
         size_at(b, 3),
@@ -48,29 +46,28 @@ fn answer(console: &mut Console, b: &[u8], capture: &[u8], means: &mut [f64]) {
         quad_at(b),
         means,
     );
+    match searched {
+        Ok(stage) => print_stage(console, stage),
+        Err(refusal) => print_refusal(console, refusal),
+    }
 }
 
-// The search, past the tests that its callers make: their numbers otherwise.
+// The search, past the tests that its callers make.
 fn searched(
-    console: &mut Console,
     capture: &[u8],
     w: usize,
     h: usize,
     frame: FrameSpec,
     quad: Quad,
     means: &mut [f64],
-) {
-    if frame_outside(frame) {
-        return print_word(console, 1);
-    }
-    if capture_wrong(capture, w, h) {
-        return print_word(console, 2);
-    }
+) -> Result<Stage, Refusal> {
+    let frame = CheckedFrame::new(frame)?;
+    let capture = RgbImage::new(capture, w, h)?;
     let n = sampled_cells(frame);
     if means.len() < n {
-        return print_word(console, 3);
+        return Err(Refusal::AreaShort);
     }
-    print_stage(console, search(capture, w, h, frame, quad, &mut means[..n]));
+    Ok(search(capture, frame, quad, &mut means[..n]))
 }
 
 // ---- arguments
@@ -82,34 +79,27 @@ fn size_at(b: &[u8], i: usize) -> usize {
 fn point_at(b: &[u8], i: usize) -> Point
     requires { i ≤ 100 }
 {
-    let x = vectors::double(vectors::word(b, i));
-    let y = vectors::double(vectors::word(b, i + 1));
-    Point { x: x, y: y }
+    Point {
+        x: vectors::double(vectors::word(b, i)),
+        y: vectors::double(vectors::word(b, i + 1)),
+    }
 }
 
 fn frame_at(b: &[u8]) -> FrameSpec {
-    let width = size_at(b, 4);
-    let height = size_at(b, 5);
-    let cell = size_at(b, 6);
-    let margin = size_at(b, 7);
     FrameSpec {
-        width: width,
-        height: height,
-        cell: cell,
-        margin: margin,
+        width: size_at(b, 4),
+        height: size_at(b, 5),
+        cell: size_at(b, 6),
+        margin: size_at(b, 7),
     }
 }
 
 fn quad_at(b: &[u8]) -> Quad {
-    let tl = point_at(b, 8);
-    let tr = point_at(b, 10);
-    let br = point_at(b, 12);
-    let bl = point_at(b, 14);
     Quad {
-        tl: tl,
-        tr: tr,
-        br: br,
-        bl: bl,
+        tl: point_at(b, 8),
+        tr: point_at(b, 10),
+        br: point_at(b, 12),
+        bl: point_at(b, 14),
     }
 }
 
@@ -125,18 +115,20 @@ fn print_float(console: &mut Console, x: f64) {
     print_word(console, vectors::bits(x));
 }
 
+fn print_refusal(console: &mut Console, refusal: Refusal) {
+    print_word(console, u64::from(refusal.number()));
+}
+
 fn print_stage(console: &mut Console, s: Stage) {
-    let kept = s.kept;
-    let fit = s.fit;
-    match kept {
+    match s.kept {
         Outcome::NoHomography => {
-            print_word(console, 10);
+            print_refusal(console, Refusal::NoHomography);
             print_counts(console, s.tried, s.homographies);
         }
         Outcome::Graded(g) => {
             print_word(console, 0);
             print_counts(console, s.tried, s.homographies);
-            print_fit(console, fit);
+            print_fit(console, s.fit);
             print_grade(console, g);
         }
     }
@@ -148,10 +140,8 @@ fn print_counts(console: &mut Console, tried: usize, homographies: usize) {
 }
 
 fn print_fit(console: &mut Console, fit: GeometryFit) {
-    let h = fit.h;
-    let m = h.m;
-    for i in 0..9 {
-        print_float(console, m[i]);
+    for x in fit.h.m {
+        print_float(console, x);
     }
     let lens = fit.radial;
     print_float(console, lens.k);

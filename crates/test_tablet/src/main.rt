@@ -9,7 +9,7 @@ mod looks; // looks.rt: the functions that look at the whole capture
 mod print; // print.rt: words on lines
 
 use console::Console;
-use print::{all_bytes, bytes, floats, shorts, singles, word, words};
+use print::{all_bytes, bytes, word, words};
 use std::io;
 
 fn main(rt: HostRuntime) -> io::Result<()> {
@@ -24,7 +24,7 @@ fn main(rt: HostRuntime) -> io::Result<()> {
     grid_score(&mut console, &capture, &fit);
     // The card moved to the right, in part off the picture: an outside grade, with its cell.
     let mut moved = fit;
-    moved[2] = moved[2] + 40.0;
+    moved[2] += 40.0;
     grid_score(&mut console, &capture, &moved);
     warp_with(&mut console, &capture, &fit);
     // A fit of NaNs: no position is inside.
@@ -65,9 +65,9 @@ fn fit_for(console: &mut Console, points: &[f64; 8]) -> [f64; 13] {
     let mut fit = [0.0; 13];
     word(
         console,
-        tablet::tablet_fit_for(128, 112, 208, 192, 8, 48, points, 0.015, &mut fit) as u64,
+        tablet::tablet_fit_for(128, 112, 208, 192, 8, 48, points, 0.015, &mut fit),
     );
-    floats(console, &fit, 0, 13);
+    words(console, &fit);
     fit
 }
 
@@ -75,18 +75,18 @@ fn grid_score(console: &mut Console, capture: &[u8; 43008], fit: &[f64; 13]) {
     let mut means = [0.0; 29];
     let mut grade = [9u64; 2];
     let mut score = [0.0; 1];
-    let r = tablet::tablet_grid_score(
+    let number = tablet::tablet_grid_score(
         capture, 128, 112, 208, 192, 8, 48, fit, &mut means, &mut grade, &mut score,
     );
-    word(console, r as u64);
-    words(console, &grade, 0, 2);
-    floats(console, &score, 0, 1);
+    word(console, number);
+    words(console, &grade);
+    words(console, &score);
 }
 
 fn warp_with(console: &mut Console, capture: &[u8; 43008], fit: &[f64; 13]) {
     let mut canonical = [5u8; 119808];
     let mut counts = [9u64; 1];
-    let r = tablet::tablet_warp_with(
+    let number = tablet::tablet_warp_with(
         capture,
         128,
         112,
@@ -98,8 +98,8 @@ fn warp_with(console: &mut Console, capture: &[u8; 43008], fit: &[f64; 13]) {
         &mut canonical,
         &mut counts,
     );
-    word(console, r as u64);
-    words(console, &counts, 0, 1);
+    word(console, number);
+    words(console, &counts);
     bytes(console, &canonical, 936);
 }
 
@@ -114,7 +114,7 @@ fn patterns(fit: &[f64; 13]) -> [u64; 13] {
 fn warp_record(console: &mut Console, capture: &[u8; 43008], grade: u32, numbers: &[u64; 13]) {
     let mut canonical = [5u8; 119808];
     let mut counts = [9u64; 1];
-    let r = tablet::tablet_warp_record(
+    let number = tablet::tablet_warp_record(
         capture,
         128,
         112,
@@ -127,8 +127,8 @@ fn warp_record(console: &mut Console, capture: &[u8; 43008], grade: u32, numbers
         &mut canonical,
         &mut counts,
     );
-    word(console, r as u64);
-    words(console, &counts, 0, 1);
+    word(console, number);
+    words(console, &counts);
     bytes(console, &canonical, 936);
 }
 
@@ -136,13 +136,13 @@ fn bilinear(console: &mut Console, capture: &[u8; 43008]) {
     let mut colour = [0u8; 8];
     word(
         console,
-        tablet::tablet_bilinear(capture, 128, 112, 40.25, 71.5, &mut colour) as u64,
+        tablet::tablet_bilinear(capture, 128, 112, 40.25, 71.5, &mut colour),
     );
     bytes(console, &colour, 1);
 }
 
 fn luma(console: &mut Console) {
-    singles(console, &[tablet::tablet_luma(200, 31, 7)], 0, 1);
+    word(console, tablet::tablet_luma(200, 31, 7));
 }
 
 // ---- frames
@@ -151,36 +151,30 @@ fn lengths(console: &mut Console) {
     let mut numbers = [0u64; 11];
     word(
         console,
-        tablet::tablet_lengths(128, 112, 208, 192, 8, 48, &mut numbers) as u64,
+        tablet::tablet_lengths(128, 112, 208, 192, 8, 48, &mut numbers),
     );
-    words(console, &numbers, 0, 11);
+    words(console, &numbers);
 }
 
 fn grid(console: &mut Console) {
     let mut numbers = [0u64; 2];
-    word(
-        console,
-        tablet::tablet_grid(208, 192, 8, 48, &mut numbers) as u64,
-    );
-    words(console, &numbers, 0, 2);
+    word(console, tablet::tablet_grid(208, 192, 8, 48, &mut numbers));
+    words(console, &numbers);
 }
 
 fn marker_numbers(console: &mut Console) {
     let mut numbers = [0u64; 3];
-    word(
-        console,
-        tablet::tablet_marker_numbers(10, &mut numbers) as u64,
-    );
-    words(console, &numbers, 0, 3);
+    word(console, tablet::tablet_marker_numbers(10, &mut numbers));
+    words(console, &numbers);
 }
 
 fn marker_centers(console: &mut Console) -> [f64; 8] {
     let mut points = [0.0; 8];
     word(
         console,
-        tablet::tablet_marker_centers(208, 192, 8, 48, &mut points) as u64,
+        tablet::tablet_marker_centers(208, 192, 8, 48, &mut points),
     );
-    floats(console, &points, 0, 8);
+    words(console, &points);
     points
 }
 
@@ -188,7 +182,7 @@ fn stamp_fiducials(console: &mut Console) {
     let mut image = [7u8; 7920];
     word(
         console,
-        tablet::tablet_stamp_fiducials(&mut image, 60, 44, 208, 192, 8, 48) as u64,
+        tablet::tablet_stamp_fiducials(&mut image, 60, 44, 208, 192, 8, 48),
     );
     bytes(console, &image, 62);
 }
@@ -199,40 +193,37 @@ fn from_points(console: &mut Console, source: &[f64; 8], target: &[f64; 8]) -> [
     let mut matrix = [0.0; 9];
     word(
         console,
-        tablet::tablet_from_points(source, target, &mut matrix) as u64,
+        tablet::tablet_from_points(source, target, &mut matrix),
     );
-    floats(console, &matrix, 0, 9);
+    words(console, &matrix);
     matrix
 }
 
 fn inverse(console: &mut Console, matrix: &[f64; 9]) {
     let mut result = [0.0; 9];
-    word(console, tablet::tablet_inverse(matrix, &mut result) as u64);
-    floats(console, &result, 0, 9);
+    word(console, tablet::tablet_inverse(matrix, &mut result));
+    words(console, &result);
 }
 
 fn mat3_mul(console: &mut Console, a: &[f64; 9], b: &[f64; 13]) {
     let mut result = [0.0; 9];
-    word(console, tablet::tablet_mat3_mul(a, b, &mut result) as u64);
-    floats(console, &result, 0, 9);
+    word(console, tablet::tablet_mat3_mul(a, b, &mut result));
+    words(console, &result);
 }
 
 fn apply(console: &mut Console, matrix: &[f64; 9]) {
     let mut point = [0.0; 2];
     word(
         console,
-        tablet::tablet_apply(matrix, 31.0, 77.5, &mut point) as u64,
+        tablet::tablet_apply(matrix, 31.0, 77.5, &mut point),
     );
-    floats(console, &point, 0, 2);
+    words(console, &point);
 }
 
 fn radial(console: &mut Console) -> [f64; 4] {
     let mut lens = [0.0; 4];
-    word(
-        console,
-        tablet::tablet_radial(128, 112, 0.125, &mut lens) as u64,
-    );
-    floats(console, &lens, 0, 4);
+    word(console, tablet::tablet_radial(128, 112, 0.125, &mut lens));
+    words(console, &lens);
     lens
 }
 
@@ -240,24 +231,24 @@ fn distort(console: &mut Console, lens: &[f64; 4]) {
     let mut point = [0.0; 2];
     word(
         console,
-        tablet::tablet_distort(lens, 31.0, 77.5, &mut point) as u64,
+        tablet::tablet_distort(lens, 31.0, 77.5, &mut point),
     );
-    floats(console, &point, 0, 2);
+    words(console, &point);
 }
 
 fn undistort(console: &mut Console, lens: &[f64; 4]) {
     let mut point = [0.0; 2];
     word(
         console,
-        tablet::tablet_undistort(lens, 31.0, 77.5, &mut point) as u64,
+        tablet::tablet_undistort(lens, 31.0, 77.5, &mut point),
     );
-    floats(console, &point, 0, 2);
+    words(console, &point);
 }
 
 fn rms_error(console: &mut Console, a: &[f64; 8], b: &[f64; 8]) {
     let mut result = [0.0; 1];
-    word(console, tablet::tablet_rms_error(a, b, &mut result) as u64);
-    floats(console, &result, 0, 1);
+    word(console, tablet::tablet_rms_error(a, b, &mut result));
+    words(console, &result);
 }
 
 // ---- books
@@ -284,7 +275,7 @@ fn write_book(console: &mut Console) -> [u8; 136] {
     let mut book = [9u8; 136];
     word(
         console,
-        tablet::tablet_write_book(&heads, &numbers, 1, &mut book) as u64,
+        tablet::tablet_write_book(&heads, &numbers, 1, &mut book),
     );
     all_bytes(console, &book);
     book
@@ -296,10 +287,10 @@ fn read_book(console: &mut Console, book: &[u8; 136]) {
     let mut numbers = [9u64; 15];
     word(
         console,
-        tablet::tablet_read_book(book, &mut heads, &mut numbers) as u64,
+        tablet::tablet_read_book(book, &mut heads, &mut numbers),
     );
-    shorts(console, &heads, 0, 5);
-    words(console, &numbers, 0, 15);
+    words(console, &heads);
+    words(console, &numbers);
 }
 
 // ---- masks
@@ -307,7 +298,7 @@ fn read_book(console: &mut Console, book: &[u8; 136]) {
 // In an area of 40 bytes: for 4 by 9 pixels it is longer, for 4 by 11 it is short.
 fn checkerboard(console: &mut Console, w: usize, h: usize) {
     let mut mask = [9u8; 40];
-    word(console, tablet::tablet_checkerboard(w, h, &mut mask) as u64);
+    word(console, tablet::tablet_checkerboard(w, h, &mut mask));
     all_bytes(console, &mask);
 }
 
@@ -323,7 +314,7 @@ fn patch_windows(console: &mut Console, n: usize, k: usize, last: u64) {
     let mut answers = [9u64; 7];
     word(
         console,
-        tablet::tablet_patch_windows(&patches, n, &windows, k, &mut answers) as u64,
+        tablet::tablet_patch_windows(&patches, n, &windows, k, &mut answers),
     );
-    words(console, &answers, 0, 7);
+    words(console, &answers);
 }

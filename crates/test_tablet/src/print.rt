@@ -1,39 +1,44 @@
-// Words on lines, 16 hexadecimal digits each: numbers of an area from one place up to another.
+// Words on lines, 16 hexadecimal digits each.
 ghost use Rattle.std.specs.Prelude.{◌≤◌};
 
-use base::min;
 use console::Console;
 
-pub(crate) fn word(console: &mut Console, w: u64) {
-    let line = vectors::hex_line(w);
-    console.text(&line);
+// A number that is printed as a word: its bits, a float's by its pattern.
+pub(crate) trait Printed: Copy {
+    fn bits(self) -> u64;
 }
 
-fn wide(x: u32) -> u64 {
-    x as u64
-}
-
-pub(crate) fn words(console: &mut Console, a: &[u64], from: usize, to: usize) {
-    for i in from..min(to, a.len()) {
-        word(console, a[i]);
+impl Printed for u64 {
+    fn bits(self) -> u64 {
+        self
     }
 }
 
-pub(crate) fn shorts(console: &mut Console, a: &[u32], from: usize, to: usize) {
-    for i in from..min(to, a.len()) {
-        word(console, wide(a[i]));
+impl Printed for u32 {
+    fn bits(self) -> u64 {
+        u64::from(self)
     }
 }
 
-pub(crate) fn floats(console: &mut Console, a: &[f64], from: usize, to: usize) {
-    for i in from..min(to, a.len()) {
-        word(console, vectors::bits(a[i]));
+impl Printed for f64 {
+    fn bits(self) -> u64 {
+        vectors::bits(self)
     }
 }
 
-pub(crate) fn singles(console: &mut Console, a: &[f32], from: usize, to: usize) {
-    for i in from..min(to, a.len()) {
-        word(console, wide(vectors::bits32(a[i])));
+impl Printed for f32 {
+    fn bits(self) -> u64 {
+        u64::from(vectors::bits32(self))
+    }
+}
+
+pub(crate) fn word<T: Printed>(console: &mut Console, n: T) {
+    console.text(&vectors::hex_line(n.bits()));
+}
+
+pub(crate) fn words<T: Printed>(console: &mut Console, numbers: &[T]) {
+    for n in numbers {
+        word(console, *n);
     }
 }
 

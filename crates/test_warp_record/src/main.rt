@@ -4,10 +4,9 @@
 // what stdin and stdout hold, and how to make them again.
 #![tactic(auto)]
 
-use base::min;
 use book::FitRecord;
 use console::Console;
-use frame::{FrameSpec, Number};
+use frame::{FrameSpec, Refusal};
 use std::io;
 
 // A call at a time, to the end of stdin.
@@ -28,8 +27,8 @@ fn main(rt: HostRuntime) -> io::Result<()> {
 
 // The call that 22 words describe, on as much of the areas as it is lent.
 fn call(console: &mut Console, head: &[u8], capture: &mut [u8], canonical: &mut [u8]) {
-    let bytes = min(size_at(head, 2), capture.len());
-    let room = min(size_at(head, 8), canonical.len());
+    let bytes = size_at(head, 2).min(capture.len());
+    let room = size_at(head, 8).min(canonical.len());
     answer(console, head, &mut capture[..bytes], &mut canonical[..room]);
 }
 
@@ -42,16 +41,15 @@ fn answer(console: &mut Console, head: &[u8], capture: &mut [u8], canonical: &mu
         cell: size_at(head, 5),
         margin: size_at(head, 6),
     };
-    let kept = kept_in(head);
-    let number = geometry::warp_record(
+    let beyond = geometry::warp_record(
         capture,
         size_at(head, 0),
         size_at(head, 1),
         frame,
-        kept,
+        kept_in(head),
         canonical,
     );
-    print(console, number);
+    print(console, beyond);
     bytes(console, canonical);
 }
 
@@ -61,46 +59,42 @@ fn size_at(head: &[u8], i: usize) -> usize {
 
 // The record of grade and patterns; its key changes nothing.
 fn kept_in(head: &[u8]) -> FitRecord {
-    let mut patterns = [0u64; 13];
-    for i in 0..13 {
-        patterns[i] = vectors::word(head, 9 + i);
+    let mut numbers = [0u64; 13];
+    for (i, pattern) in numbers.iter_mut().enumerate() {
+        *pattern = vectors::word(head, 9 + i);
     }
     FitRecord {
         panel: 7,
         camera: 3,
         grade: (vectors::word(head, 7) % 0x1_0000_0000) as u32,
-        numbers: patterns,
+        numbers,
     }
 }
 
 // What the canonical image holds before a call.
 fn cover(canonical: &mut [u8]) {
-    for i in 0..canonical.len() {
-        canonical[i] = (i % 251) as u8;
+    for (i, byte) in canonical.iter_mut().enumerate() {
+        *byte = (i % 251) as u8;
     }
 }
 
-fn print(console: &mut Console, number: Number) {
-    match number {
-        Number::Is(beyond) => {
+fn print(console: &mut Console, beyond: Result<usize, Refusal>) {
+    match beyond {
+        Ok(beyond) => {
             console.text(b"accepted ");
             console.decimal(beyond as u64);
         }
-        Number::Refused(n) => {
+        Err(refusal) => {
             console.text(b"refused ");
-            console.decimal(n as u64);
+            console.decimal(u64::from(refusal.number()));
         }
     }
 }
 
 fn bytes(console: &mut Console, b: &[u8]) {
     console.text(b" ");
-    for i in 0..b.len() {
-        console.hex(wide(b[i]), 2);
+    for byte in b {
+        console.hex(u64::from(*byte), 2);
     }
     console.text(b"\n");
-}
-
-fn wide(x: u8) -> u64 {
-    x as u64
 }

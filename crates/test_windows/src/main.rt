@@ -10,10 +10,20 @@ mod print; // print.rt: an answer's lines
 
 ghost use Rattle.std.specs.Prelude.{◌≤◌};
 
-use base::min;
 use console::Console;
-use frame::Verdict;
+use frame::Refusal;
 use std::io;
+
+// The areas of a mask of 64 by 64 pixels, and more than the 64 rectangles and answers of a call, so
+// that too many can be asked for.
+#[derive(Drop)]
+struct Areas {
+    seen: [u8; 4096],
+    waiting: [u32; 4096],
+    patches: [u64; 16384],
+    windows: [u64; 512],
+    answers: [u64; 256],
+}
 
 fn main(rt: HostRuntime) -> io::Result<()> {
     let mut console = Console::new(rt);
@@ -24,32 +34,28 @@ fn main(rt: HostRuntime) -> io::Result<()> {
 }
 
 // A question is seven words, the mask or the list, and the rectangles. Where the input ends early
-// the last question has what is left of it. The areas are those of a mask of 64 by 64 pixels, and
-// hold more than the 64 rectangles and answers of a call, so that too many can be asked for.
+// the last question has what is left of it.
 fn ask_all(console: &mut Console, input: &[u8]) {
-    let mut seen = [9u8; 4096];
-    let mut waiting = [9u32; 4096];
-    let mut patches = [9u64; 16384];
-    let mut windows = [9u64; 512];
-    let mut answers = [9u64; 256];
-    let mut at = 0;
-    while 56 <= input.len() - at {
-        let start = at + 56;
-        let head = &input[at..start];
-        let listed = min(start + list_bytes(head), input.len());
-        let end = min(listed + 8 * held(head, 4, 512), input.len());
+    let mut areas = Areas {
+        seen: [9; 4096],
+        waiting: [9; 4096],
+        patches: [9; 16384],
+        windows: [9; 512],
+        answers: [9; 256],
+    };
+    let mut rest = input;
+    while 56 <= rest.len() {
+        let head = &rest[..56];
+        let listed = (56 + list_bytes(head)).min(rest.len());
+        let end = (listed + 8 * held(head, 4, 512)).min(rest.len());
         ask(
             console,
             head,
-            &input[start..listed],
-            &input[listed..end],
-            &mut seen,
-            &mut waiting,
-            &mut patches,
-            &mut windows,
-            &mut answers,
+            &rest[56..listed],
+            &rest[listed..end],
+            &mut areas,
         );
-        at = end;
+        rest = &rest[end..];
     }
 }
 
@@ -63,7 +69,7 @@ fn size_at(head: &[u8], i: usize) -> usize {
 fn held(head: &[u8], i: usize, most: usize) -> usize
     ensures { result ≤ most }
 {
-    min(size_at(head, i), most)
+    size_at(head, i).min(most)
 }
 
 // How long the mask is, or the list where the width is 0.
@@ -81,36 +87,34 @@ fn list_bytes(head: &[u8]) -> usize
 fn pixels(w: usize, h: usize) -> usize
     ensures { result ≤ 4096 }
 {
-    if w > 64 {
-        return 0;
-    }
-    if h > 64 {
-        return 0;
-    }
-    w * h
+    if w > 64 || h > 64 { 0 } else { w * h }
 }
 
 // The patches of the mask, or the list as it is handed in.
-fn load_list(
-    console: &mut Console,
-    head: &[u8],
-    list: &[u8],
-    seen: &mut [u8; 4096],
-    waiting: &mut [u32; 4096],
-    patches: &mut [u64; 16384],
-) {
+fn load_list(console: &mut Console, head: &[u8], list: &[u8], areas: &mut Areas) {
     let w = size_at(head, 0);
     if w == 0 {
-        load(list, patches);
+        load(list, &mut areas.patches);
         return;
     }
-    let r = blobs::label_blobs(list, w, size_at(head, 1), seen, waiting, patches);
-    print::labelled(console, b"patches ", r.patches as u64);
+    let answer = blobs::label_blobs(
+        list,
+        w,
+        size_at(head, 1),
+        &mut areas.seen,
+        &mut areas.waiting,
+        &mut areas.patches,
+    );
+    let patches = match answer {
+        Ok(labelled) => labelled.patches,
+        Err(_) => 0,
+    };
+    print::labelled(console, b"patches ", patches as u64);
 }
 
 // As many words as there are and the area holds, at its start.
 fn load(words: &[u8], area: &mut [u64]) {
-    let n = min(words.len() / 8, area.len());
+    let n = (words.len() / 8).min(area.len());
     for i in 0..n {
         area[i] = vectors::word(words, i);
     }
@@ -118,36 +122,19 @@ fn load(words: &[u8], area: &mut [u64]) {
 
 // ---- a question
 
-fn ask(
-    console: &mut Console,
-    head: &[u8],
-    list: &[u8],
-    rectangles: &[u8],
-    seen: &mut [u8; 4096],
-    waiting: &mut [u32; 4096],
-    patches: &mut [u64; 16384],
-    windows: &mut [u64; 512],
-    answers: &mut [u64; 256],
-) {
-    load_list(console, head, list, seen, waiting, patches);
-    load(rectangles, windows);
-    fill(answers);
-    let verdict = call(head, patches, windows, answers);
-    match verdict {
-        Verdict::Accepted => print::accepted(console, answers, size_at(head, 5)),
-        Verdict::Refused(n) => print::refused(console, answers, n),
-    }
-}
-
-// A number that shows which entries the call leaves alone.
-fn fill(answers: &mut [u64; 256]) {
-    for i in 0..256 {
-        answers[i] = 9;
+fn ask(console: &mut Console, head: &[u8], list: &[u8], rectangles: &[u8], areas: &mut Areas) {
+    load_list(console, head, list, areas);
+    load(rectangles, &mut areas.windows);
+    // A number that shows which entries the call leaves alone.
+    areas.answers = [9; 256];
+    match call(head, &areas.patches, &areas.windows, &mut areas.answers) {
+        Ok(()) => print::accepted(console, &areas.answers, size_at(head, 5)),
+        Err(refusal) => print::refused(console, &areas.answers, refusal),
     }
 }
 
 // The call that seven words describe, on as much of the areas as it is lent.
-fn call(head: &[u8], patches: &[u64], windows: &[u64], answers: &mut [u64]) -> Verdict {
+fn call(head: &[u8], patches: &[u64], windows: &[u64], answers: &mut [u64]) -> Result<(), Refusal> {
     let listed = held(head, 2, patches.len());
     let drawn = held(head, 4, windows.len());
     let room = held(head, 6, answers.len());

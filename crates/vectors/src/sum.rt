@@ -2,8 +2,6 @@
 ghost use Rattle.std.specs.Prelude.{◌≡◌, ◌<◌, ℕ, map};
 ghost use Rattle.vectors.specs.Sums.{prime, added, sum_of};
 
-pub use self::{of as of_bytes, of as of_numbers};
-
 // What a checksum is taken of.
 pub trait Number {
     ghost number: { Self → ℕ };

@@ -1,5 +1,6 @@
 -- The four ranges of an `f64`'s pattern b, by its magnitude b % 2 ^ 63, and the pattern of the nearest `f32` in each. Assumes nothing.
-use Rattle.std.proofs.Common.{◌≡◌, ℕ, suc, ◌+◌, ◌-◌, ◌*◌, ◌/◌, ◌%◌, ◌^◌, ◌<◌, ◌≤◌, Bool, true, false, cond, not, T, leb, sym, refl, ap, ◌∙◌, subst, inl, inr, add-zero, mod-eq_of_lt, one-mul, add-one, arith, leb→le, pow_pos, pow_mono}
+use Rattle.std.proofs.Common.{◌≡◌, ℕ, suc, ◌+◌, ◌-◌, ◌*◌, ◌/◌, ◌%◌, ◌^◌, ◌<◌, ◌≤◌, Bool, true, false, cond, not}
+use Rattle.std.proofs.Common.{T, leb, sym, refl, ap, ◌∙◌, subst, true≢false, inl, inr, mod-eq_of_lt, one-mul, add-one, arith, leb→le, pow_pos}
 use lib.Dec.{nleb→lt}
 use lib.Pow.{pow-lt, mod-mod-pow}
 use lib.Ieee.{Float, nan, inf, fin, binary32, binary64, round, is_nan, fits, nan_bits, to_bits, of_bits}
@@ -24,6 +25,12 @@ unfolding narrowed
 narrowed_fits nan = nan-fits binary32
 narrowed_fits (inf s) = inf-fits binary32 s
 narrowed_fits (fin s m e) = round-fits binary32 s _ _
+
+pub narrowed_nan : (x : Float) → is_nan x ≡ true → nan ≡ narrowed x
+unfolding narrowed is_nan
+narrowed_nan nan h = refl
+narrowed_nan (inf s) h = absurd (true≢false (sym h))
+narrowed_nan (fin s m e) h = absurd (true≢false (sym h))
 
 abbrev pub Done : Float → ℕ → Type 0
 Done x p = T (not (nan_bits binary32 p)) × (of_bits binary32 p ≡ narrowed x) × (p < 2 ^ 32)
@@ -213,12 +220,6 @@ module _ (x : Float) (F : T (fits binary64 x)) (N : T (not (is_nan x))) where
       go : (m : ℕ) → 872 * 2 ^ 52 ≤ m → 925 - m / 2 ^ 52 < 64
       go m e = omega arith
 
-  pub half_bounds : 872 * 2 ^ 52 ≤ b % 2 ^ 63 → (0 < half) × (half ≤ 2 ^ 53)
-  half_bounds lo = (subst (λ (z : ℕ). 0 < z) (sym (half_is lo)) (pow_pos cut), subst (λ (z : ℕ). z ≤ 2 ^ 53) (sym (half_is lo)) (pow_mono (go (b % 2 ^ 63) lo)))
-    where
-      go : (m : ℕ) → 872 * 2 ^ 52 ≤ m → 925 - m / 2 ^ 52 ≤ 53
-      go m e = omega arith
-
   pub in_coded : 872 * 2 ^ 52 ≤ b % 2 ^ 63 → b % 2 ^ 63 < 897 * 2 ^ 52 → Done x (b / 2 ^ 63 * 2 ^ 31 + (2 ^ 52 + b % 2 ^ 52 + (half - 1) +
       (2 ^ 52 + b % 2 ^ 52) / 2 ^ (cut + 1) % 2) / 2 ^ (cut + 1))
   in_coded lo hi =
@@ -229,14 +230,13 @@ module _ (x : Float) (F : T (fits binary64 x)) (N : T (not (is_nan x))) where
       go : (m : ℕ) → m < 897 * 2 ^ 52 → 925 - m / 2 ^ 52 + m / 2 ^ 52 ≡ 925
       go m e = omega arith
 
-  pub in_zero : b % 2 ^ 63 < 872 * 2 ^ 52 → Done x (b / 2 ^ 63 * 2 ^ 31)
+  pub in_zero : b % 2 ^ 63 < 872 * 2 ^ 52 → Done x (b / 2 ^ 63 * 2 ^ 31 + 0)
   in_zero hi =
-      subst (Done x) (add-zero (b / 2 ^ 63 * 2 ^ 31))
-      (elim value [
+      elim value [
         | inl v ↦ go 0 (b % 2 ^ 52) 924 (less b) (lt 0 refl) refl v.1 (lt2 924 refl)
         | inr (inl v) ↦ go v.0 (2 ^ 52 + b % 2 ^ 52) (924 - v.0) (digit_hi b) (J (b % 2 ^ 63) v.0 hi v.1) (cut (b % 2 ^ 63) v.0 hi v.1) v.3 (far (b % 2 ^ 63) v.0 hi v.1)
         | inr (inr v) ↦ absurd (late (b % 2 ^ 63) hi v.0)
-      ])
+      ]
     where
       less : (y : ℕ) → y % 2 ^ 52 < 2 ^ 53
       less y = omega arith

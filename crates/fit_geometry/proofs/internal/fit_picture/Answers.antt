@@ -2,9 +2,6 @@
 use Rattle.fit_geometry.proofs.PastTests.{unsearched_is, searched_is}
 use Rattle.fit_geometry.proofs.internal.fit_picture.Goals as goal
 
-pub search_lent-stage-requires : goal.search_lent-stage-requires
-search_lent-stage-requires c = c.requires.1
-
 pub returns-in-Err-clause-past_tests : goal.returns-in-Err-clause-past_tests
 returns-in-Err-clause-past_tests c = unsearched_is _ _ _ _ _ c.detect-found.ensures.past_tests c.in-Err.is c.unsearched.ensures
 

