@@ -12,7 +12,8 @@ use Rattle.blobs.proofs.Grid.{dark_inside}
 use Rattle.blobs.proofs.Joins.{joined_dark}
 use Rattle.blobs.proofs.Sums.{total_below}
 use Rattle.blobs.specs.declared.Blob.{Blob}
-use Rattle.candidates.specs.Bounds.{PlanesHeld, BlobHeld}
+use Rattle.candidates.specs.Held.{PlanesHeld}
+use Rattle.candidates.specs.Bounds.{BlobHeld}
 use Rattle.candidates.proofs.Sums.{total_capped, marks_few}
 
 bounded : (f : ℕ → ℕ) (P : ℕ → Type 0) (lo hi : ℕ) → Least f P lo → Greatest f P hi → lo ≤ hi

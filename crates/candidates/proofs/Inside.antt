@@ -14,7 +14,7 @@ use Rattle.base.proofs.Tests.{or_left, or_right, holds, refuted}
 use Rattle.float.specs.Floats.{f64, as_usize}
 use Rattle.float.proofs.Numbers.{f64_value}
 use Rattle.frame.specs.Image.{outside}
-use Rattle.candidates.specs.Bounds.{PlanesHeld}
+use Rattle.candidates.specs.Held.{PlanesHeld}
 
 no_infinity : (x : Float) (n : ℕ) → HasValue x false n 1 → le x (inf false) ≡ true
 unfolding le lt eq

@@ -23,7 +23,8 @@ use Rattle.blobs.specs.Patches.{ink, patch_at}
 use Rattle.blobs.specs.declared.Blob.{Blob}
 use Rattle.candidates.specs.Ring.{CandidateList}
 use Rattle.candidates.specs.Areas.{Areas, areas, area_short, look_tests}
-use Rattle.candidates.specs.Bounds.{PlanesHeld, Listable, Ready}
+use Rattle.candidates.specs.Held.{PlanesHeld}
+use Rattle.candidates.specs.Bounds.{Listable, Ready}
 use Rattle.candidates.specs.Promises.{Looked, Listing}
 use Rattle.candidates.proofs.Refusing.{clear, ready_of}
 

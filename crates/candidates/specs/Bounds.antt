@@ -7,19 +7,11 @@ use Rattle.frame.specs.Limits.{FrameHeld, CaptureHeld}
 use Rattle.frame.specs.declared.FrameSpec.{FrameSpec}
 use Rattle.markers.specs.Layout.{no_layout}
 use Rattle.candidates.specs.Areas.{Areas}
+use Rattle.candidates.specs.Held.{PlanesHeld}
 use Rattle.candidates.specs.Ring.{probed, candidate_length}
 use Rattle.candidates.specs.declared.Probe.{Probe}
 use Rattle.candidates.specs.declared.Tally.{Tally}
 use Rattle.candidates.specs.declared.Ring.{Ring}
-
--- the mask and the luma plane of a picture w by h
-pub record PlanesHeld (w h : ℕ) (m : List ℕ) (luma : List Float) : Type 0 where
-  pub w_some : 1 ≤ w
-  pub w_held : w ≤ 4096
-  pub h_some : 1 ≤ h
-  pub h_held : h ≤ 4096
-  pub mask_long : length m ≡ w * h
-  pub luma_long : length luma ≡ w * h
 
 -- the record of a patch in it
 pub record BlobHeld (w h : ℕ) (t : Blob) : Type 0 where

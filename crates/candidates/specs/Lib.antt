@@ -5,3 +5,5 @@ pub mod Promises
 pub mod Bounds
 pub mod Agreement
 pub mod Lent
+pub mod Held
+pub mod OverPlanes

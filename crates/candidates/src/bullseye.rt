@@ -1,9 +1,11 @@
 // The seventeen probes of a bullseye in a patch's box, and the share of them that agree.
 ghost use Rattle.std.specs.Prelude.{◌≡◌, cond, [], ◌∷◌, ◌+◌, ◌≤◌, ◌<◌, ltb, length};
 ghost use Rattle.std.specs.Bool.{beq};
-ghost use Rattle.candidates.specs.Ring.{tallied, arms, share_of, ring_score};
-ghost use Rattle.candidates.specs.Bounds.{PlanesHeld, BlobHeld, Sound, Probing};
+ghost use Rattle.candidates.specs.Ring.{tallied, arms, share_of};
+ghost use Rattle.candidates.specs.Bounds.{Sound};
+ghost use Rattle.candidates.specs.OverPlanes.{ProbingIn, PatchIn, score_in};
 
+use super::planes::Planes;
 use super::{Probe, Tally};
 use blobs::Blob;
 use float::{to_usize, widen};
@@ -46,28 +48,26 @@ fn tally(entry: u8, luma: f32, dark: bool, t: Tally) -> Tally
 }
 
 // A probe; one outside the picture is skipped.
-fn probe(mask: &[u8], luma: &[f32], w: usize, h: usize, p: Probe, t: Tally) -> Tally
-    requires planes { PlanesHeld w h mask.now luma.now }
+fn probe(planes: Planes, p: Probe, t: Tally) -> Tally
     requires sound { Sound t }
     requires few { t.made ≤ 16 }
-    ensures { Probing mask.now luma.now w h (p ∷ []) t result }
+    ensures { ProbingIn planes.entry (p ∷ []) t result }
 {
-    if outside(w, h, p.x, p.y) {
+    if outside(planes.w, planes.h, p.x, p.y) {
         return t;
     }
-    let i = to_usize(p.y) * w + to_usize(p.x);
-    tally(mask[i], luma[i], p.dark, t)
+    let i = to_usize(p.y) * planes.w + to_usize(p.x);
+    tally(planes.mask[i], planes.luma[i], p.dark, t)
 }
 
 // Probes one after the other.
-fn probe_all(mask: &[u8], luma: &[f32], w: usize, h: usize, probes: &[Probe], mut t: Tally) -> Tally
-    requires planes { PlanesHeld w h mask.now luma.now }
+fn probe_all(planes: Planes, probes: &[Probe], mut t: Tally) -> Tally
     requires sound { Sound t }
     requires few { t.made + length probes.now ≤ 17 }
-    ensures { Probing mask.now luma.now w h probes.now t result }
+    ensures { ProbingIn planes.entry probes.now t result }
 {
     for p in probes {
-        t = probe(mask, luma, w, h, *p, t);
+        t = probe(planes, *p, t);
     }
     t
 }
@@ -119,10 +119,9 @@ fn share(t: Tally) -> f64
 }
 
 // The share of the seventeen probes that agree with a bullseye in the patch's box.
-pub fn verify_bullseye(mask: &[u8], luma: &[f32], w: usize, h: usize, b: Blob) -> f64
-    requires planes { PlanesHeld w h mask.now luma.now }
-    requires patch { BlobHeld w h b }
-    ensures { result ≡ ring_score mask.now luma.now w h b }
+pub fn verify_bullseye(planes: Planes, b: Blob) -> f64
+    requires { PatchIn planes b }
+    ensures { result ≡ score_in planes.entry b }
 {
     let none = Tally {
         hits: 0,
@@ -137,9 +136,9 @@ pub fn verify_bullseye(mask: &[u8], luma: &[f32], w: usize, h: usize, b: Blob) -
         y: (b.y0 + b.y1) as f64 / 2.0,
         dark: true,
     };
-    let middle = probe(mask, luma, w, h, center, none);
-    let dot = probe_all(mask, luma, w, h, &arms(b, 0.167, true), middle);
-    let white = probe_all(mask, luma, w, h, &arms(b, 0.5, false), dot);
-    let black = probe_all(mask, luma, w, h, &arms(b, 0.833, true), white);
-    share(probe_all(mask, luma, w, h, &arms(b, 1.167, false), black))
+    let middle = probe(planes, center, none);
+    let dot = probe_all(planes, &arms(b, 0.167, true), middle);
+    let white = probe_all(planes, &arms(b, 0.5, false), dot);
+    let black = probe_all(planes, &arms(b, 0.833, true), white);
+    share(probe_all(planes, &arms(b, 1.167, false), black))
 }

@@ -15,6 +15,7 @@ mod bullseye;
 mod constants;
 pub mod internal;
 mod list;
+mod planes;
 mod ring_rule;
 mod tests;
 

@@ -4,6 +4,7 @@ ghost use Rattle.candidates.specs.Ring.{CandidateList, candidate_at, center_at};
 ghost use Rattle.candidates.specs.Bounds.{stored_record, Listable};
 ghost use Rattle.blobs.specs.Patches.{patch_at};
 
+use super::planes::Planes;
 use super::ring_rule::candidate_of;
 use super::{Candidate, Ring};
 use blobs::internal::blob_at;
@@ -42,9 +43,10 @@ pub fn list(
         candidates.old blob_index.old candidates.new blob_index.new
         result }
 {
+    let planes = Planes { w, h, mask, luma };
     let mut k = 0;
     for j in 0..n {
-        if let Some(ring) = candidate_of(mask, luma, w, h, blob_at(patches, j)) {
+        if let Some(ring) = candidate_of(planes, blob_at(patches, j)) {
             store(ring, j, k, candidates, blob_index);
             k += 1;
         }

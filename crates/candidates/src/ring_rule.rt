@@ -1,9 +1,11 @@
 // The ring rule: shape, score, and the centre and size of a patch that passes.
 ghost use Rattle.std.specs.Prelude.{◌≡◌, ◌^◌, ◌≤◌, ◌<◌};
-ghost use Rattle.candidates.specs.Ring.{shaped, center, size_of, ring_of};
-ghost use Rattle.candidates.specs.Bounds.{PlanesHeld, BlobHeld};
+ghost use Rattle.candidates.specs.Ring.{shaped, center, size_of};
+ghost use Rattle.candidates.specs.Bounds.{BlobHeld};
+ghost use Rattle.candidates.specs.OverPlanes.{PatchIn, ring_in};
 
 use super::bullseye::verify_bullseye;
+use super::planes::Planes;
 use super::{Ring, VERIFY_THRESHOLD};
 use blobs::Blob;
 use frame::Point;
@@ -44,15 +46,14 @@ fn size(b: Blob) -> f64
 }
 
 // The ring rule: centre, score and size of a patch that passes.
-pub fn candidate_of(mask: &[u8], luma: &[f32], w: usize, h: usize, blob: Blob) -> Option<Ring>
-    requires planes { PlanesHeld w h mask.now luma.now }
-    requires patch { BlobHeld w h blob }
-    ensures { result ≡ ring_of mask.now luma.now w h blob }
+pub fn candidate_of(planes: Planes, blob: Blob) -> Option<Ring>
+    requires { PatchIn planes blob }
+    ensures { result ≡ ring_in planes.entry blob }
 {
-    if !shaped(w, h, blob) {
+    if !shaped(planes.w, planes.h, blob) {
         return None;
     }
-    let score = verify_bullseye(mask, luma, w, h, blob);
+    let score = verify_bullseye(planes, blob);
     if VERIFY_THRESHOLD <= score {
         Some(Ring {
             center: center(blob),

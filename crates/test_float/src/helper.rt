@@ -16,18 +16,20 @@ pub enum Helper {
 }
 
 impl Helper {
-    pub const ALL: [Helper; 10] = [
-        Helper::Sqrt,
-        Helper::Narrow,
-        Helper::Round,
-        Helper::ToU8,
-        Helper::ToUsize,
-        Helper::Abs,
-        Helper::Signum,
-        Helper::Widen,
-        Helper::Max,
-        Helper::Clamp,
-    ];
+    pub fn all() -> [Helper; 10] {
+        [
+            Helper::Sqrt,
+            Helper::Narrow,
+            Helper::Round,
+            Helper::ToU8,
+            Helper::ToUsize,
+            Helper::Abs,
+            Helper::Signum,
+            Helper::Widen,
+            Helper::Max,
+            Helper::Clamp,
+        ]
+    }
 
     pub fn name(self) -> &'static [u8] {
         match self {

@@ -22,8 +22,9 @@ fn main(rt: HostRuntime) -> io::Result<()> {
 
 // The helpers in turn. The first words of b are their numbers of vectors.
 fn compare_all(console: &mut Console, b: &[u8]) {
-    let mut at = Helper::ALL.len();
-    for (i, helper) in Helper::ALL.iter().enumerate() {
+    let helpers = Helper::all();
+    let mut at = helpers.len();
+    for (i, helper) in helpers.iter().enumerate() {
         let n = vectors::word(b, i);
         let run = compare(b, *helper, at, n);
         console.text(helper.name());

@@ -39,5 +39,5 @@ fn shorten(console: &mut Console, page: &[u8])
     let start = page.len() - 37;
     console.text(&page[..37]);
     console.text(&page[start..]);
-    console.decimal(vectors::sum::of_bytes(page));
+    console.decimal(vectors::sum::of(page));
 }

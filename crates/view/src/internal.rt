@@ -1,12 +1,20 @@
 // Making a view and reading through it.
 ghost use Rattle.std.specs.Prelude.{◌≡◌, ◌<◌, false, true, MatchResult};
 ghost use Rattle.frame.specs.Image.{image, px};
+ghost use Rattle.frame.specs.Limits.{CaptureHeld};
 ghost use Rattle.frame.specs.Refusals.{capture_wrong};
 ghost use Rattle.view.specs.Views.{pixel_of, picture};
 ghost use Rattle.frame.specs.declared.refusals.Refusal.TheVariants.{CaptureWrong};
 
 use super::RgbImage;
 use frame::{Refusal, Rgb};
+
+pub fn new<'a>(data: &'a [u8], w: usize, h: usize) -> RgbImage<'a>
+    requires { CaptureHeld (image w h «data».now) }
+    ensures { (result.w ≡ w) × (result.h ≡ h) × (result.«data» ≡ «data».entry) }
+{
+    RgbImage { w, h, data }
+}
 
 impl<'a> RgbImage<'a> {
     // Refusal 2 where the bytes are no capture.
@@ -18,7 +26,7 @@ impl<'a> RgbImage<'a> {
         if frame::internal::capture_wrong(data, w, h) {
             return Err(Refusal::CaptureWrong);
         }
-        Ok(RgbImage { w, h, data })
+        Ok(new(data, w, h))
     }
 
     pub fn px(self, x: usize, y: usize) -> Rgb

@@ -54,7 +54,7 @@ probe_all-requires-clause-few c =
 
 all_probes : (c : goal.After-share) →
     let a = c.args in
-    Probing a.mask.now a.luma.now a.w a.h (probes a.b) none_made c.probe_all.result
+    Probing a.planes.mask.now a.planes.luma.now a.planes.w a.planes.h (probes a.b) none_made c.probe_all.result
 unfolding probes of_bits of_int d64
 all_probes c =
     probing_more _ _ _ _ _ _ _ _ _ c.probe-middle.ensures

@@ -12,8 +12,8 @@ use Rattle.candidates.proofs.list.list.Goals.{in-Some, in_default}
 pub loop-j-init : goal.loop-j-init
 loop-j-init c = record { listed = list_none _ _ _ _ _ _ _; counted = omega arith; upto = omega arith }
 
-pub candidate_of-requires-clause-patch : goal.candidate_of-requires-clause-patch
-candidate_of-requires-clause-patch c =
+pub candidate_of-requires : goal.candidate_of-requires
+candidate_of-requires c =
     let a = c.args in
     let r = c.requires in
     subst (λ z. BlobHeld a.w a.h z) (sym c.blob_at.ensures)

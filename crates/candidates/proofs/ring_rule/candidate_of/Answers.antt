@@ -15,17 +15,17 @@ tested x s b t e = ap (λ z. le z s) (sym t) ∙ e
 pub returns-then-not-shaped : goal.returns-then-not-shaped
 returns-then-not-shaped c =
     let a = c.args in
-    ring_unshaped _ _ a.w a.h a.blob (sym c.shaped.ensures ∙ c.if-not-shaped.true)
+    ring_unshaped _ _ a.planes.w a.planes.h a.blob (sym c.shaped.ensures ∙ c.if-not-shaped.true)
 
 pub returns-then-score : goal.returns-then-score
 unfolding of_bits of_int d64 round
 returns-then-score c =
     let a = c.args in
-    ring_passed _ _ a.w a.h a.blob _ _ _ (sym c.shaped.ensures ∙ c.if-not-shaped.false) c.verify_bullseye-score.ensures
+    ring_passed _ _ a.planes.w a.planes.h a.blob _ _ _ (sym c.shaped.ensures ∙ c.if-not-shaped.false) c.verify_bullseye-score.ensures
     (tested _ _ _ refl c.if-score.true) c.center.ensures c.size.ensures
 
 pub returns-else-score : goal.returns-else-score
 unfolding of_bits of_int d64 round
 returns-else-score c =
     let a = c.args in
-    ring_low _ _ a.w a.h a.blob _ (sym c.shaped.ensures ∙ c.if-not-shaped.false) c.verify_bullseye-score.ensures (tested _ _ _ refl c.if-score.false)
+    ring_low _ _ a.planes.w a.planes.h a.blob _ (sym c.shaped.ensures ∙ c.if-not-shaped.false) c.verify_bullseye-score.ensures (tested _ _ _ refl c.if-score.false)

@@ -2,5 +2,5 @@
 use Rattle.frame.proofs.Held.{capture_held}
 use Rattle.view.proofs.RgbImage.new.Goals as goal
 
-pub invariant_of-result : goal.invariant_of-result
-invariant_of-result c = record { held = capture_held _ (cc) }
+pub new-requires : goal.new-requires
+new-requires c = capture_held _ (cc)
