@@ -38,7 +38,7 @@ pub fn tap_place(frame: CheckedFrame, fit: GeometryFit, c: usize, r: usize, i: u
     requires { (c ≤ 4096) × (r ≤ 4096) }
     ensures { result ≡ spec.tap_place frame.spec fit c r i }
 {
-    let origin = frame.cell_origin(c, r);
+    let origin = frame::internal::cell_origin(frame, c, r);
     let cell = frame.spec.cell as f64;
     let p = Point {
         x: origin.x as f64 + tap_share(i % 3) * cell,

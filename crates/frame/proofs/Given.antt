@@ -101,6 +101,14 @@ of_number_number BooksDiffer = refl
 pub number_injective : (r s : Refusal) → number r ≡ number s → r ≡ s
 number_injective r s e = sym (of_number_number r) ∙ ap of_number e ∙ of_number_number s
 
+-- a refusal whose number the tests give is the answer, whatever value went with acceptance
+pub number_given : {A : Type 0} (v : A) (l : List Check) (r : Refusal) → number r ≡ lowest_of l → Err r ≡ answer_for l v
+number_given {A} v l r e = go (answer_for l v) (e ∙ sym (answer_number v l))
+  where
+    go : (a : Result A Refusal) → number r ≡ number_of a → Err r ≡ a
+    go (Ok w) h = let p = positive r in absurd (omega arith)
+    go (Err s) h = ap Err (number_injective r s h)
+
 pub same_refusal : {a b : Result ⊤ Refusal} → number_of a ≡ number_of b → a ≡ b
 same_refusal {a} {b} e = go a b e
   where

@@ -1,6 +1,6 @@
-// A frame within its limits, which the functions behind the public ones take, and its cells.
-ghost use Rattle.std.specs.Prelude.{◌≡◌, ◌≤◌, false, true, MatchResult};
-ghost use Rattle.frame.specs.Frame.{cols, rows, cell_x, cell_y};
+// A frame within its limits, which the functions behind the public ones take, and how many cells it has.
+ghost use Rattle.std.specs.Prelude.{◌≡◌, false, true, MatchResult};
+ghost use Rattle.frame.specs.Frame.{cols, rows};
 ghost use Rattle.frame.specs.Limits.{FrameHeld};
 ghost use Rattle.frame.specs.Refusals.{frame_outside};
 ghost use Rattle.frame.specs.declared.refusals.Refusal.TheVariants.{FrameOutside};
@@ -12,13 +12,6 @@ use super::{FrameSpec, Refusal};
 pub struct CheckedFrame {
     pub spec: FrameSpec,
     pub ghost held: { FrameHeld spec },
-}
-
-// The Rust's pair (x, y) of a cell's top left pixel.
-#[derive(Clone, Copy)]
-pub struct Origin {
-    pub x: usize,
-    pub y: usize,
 }
 
 impl CheckedFrame {
@@ -46,16 +39,5 @@ impl CheckedFrame {
     {
         let frame = self.spec;
         frame.height.saturating_sub(2 * frame.margin) / frame.cell
-    }
-
-    pub fn cell_origin(self, col: usize, row: usize) -> Origin
-        requires { (col ≤ 4096) × (row ≤ 4096) }
-        ensures { (result.x ≡ cell_x self.spec col) × (result.y ≡ cell_y self.spec row) }
-    {
-        let frame = self.spec;
-        Origin {
-            x: frame.margin + col * frame.cell,
-            y: frame.margin + row * frame.cell,
-        }
     }
 }

@@ -2,9 +2,10 @@
 // the functions behind the public ones.
 ghost use Rattle.std.specs.Prelude.{◌≡◌, ℕ, ◌+◌, ◌*◌, ◌-◌, ◌^◌, ◌≤◌, ◌<◌, List, length};
 ghost use Rattle.frame.specs.Image.{image, px, with_pixel, with_rect, outside};
+ghost use Rattle.frame.specs.Frame.{cell_x, cell_y};
 ghost use Rattle.frame.specs.Refusals.{side, cell_held, frame_outside, sides_wrong, capture_wrong, capture_small};
 
-use super::{FrameSpec, Rgb};
+use super::{CheckedFrame, FrameSpec, Rgb};
 
 // ---- tests
 
@@ -51,6 +52,26 @@ pub fn capture_small(w: usize, h: usize) -> bool
     ensures { (l : List ℕ) → result ≡ capture_small (image w h l) }
 {
     (w < 32) | (h < 32)
+}
+
+// ---- the frame's cells
+
+// The Rust's pair (x, y) of a cell's top left pixel.
+#[derive(Clone, Copy)]
+pub struct Origin {
+    pub x: usize,
+    pub y: usize,
+}
+
+pub fn cell_origin(frame: CheckedFrame, col: usize, row: usize) -> Origin
+    requires { (col ≤ 4096) × (row ≤ 4096) }
+    ensures { (result.x ≡ cell_x frame.spec col) × (result.y ≡ cell_y frame.spec row) }
+{
+    let spec = frame.spec;
+    Origin {
+        x: spec.margin + col * spec.cell,
+        y: spec.margin + row * spec.cell,
+    }
 }
 
 // ---- pixels

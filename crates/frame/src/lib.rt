@@ -10,7 +10,7 @@ ghost use Rattle.std.specs.Prelude.{◌≡◌};
 ghost use Rattle.frame.specs.Frame.{new_frame, cols, rows};
 ghost use Rattle.frame.specs.Refusals.{frame_tests, answer_for};
 
-pub use checked::{CheckedFrame, Origin};
+pub use checked::CheckedFrame;
 pub use refusals::Refusal;
 
 #[derive(Clone, Copy)]

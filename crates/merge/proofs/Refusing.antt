@@ -25,7 +25,7 @@ use Rattle.merge.specs.Promises.{both_tests, join_tests, merge_tests}
 
 -- ---- a book by itself
 
-book_rising : (b : List ℕ) → Rising 0 (book_tests b)
+pub book_rising : (b : List ℕ) → Rising 0 (book_tests b)
 unfolding book_tests
 book_rising b = (omega arith, (omega arith, tt))
 

@@ -9,6 +9,7 @@ use crate::{Neighbours, Sample};
 use float::internal::to_f64;
 use frame::{Point, Rgb};
 use view::RgbImage;
+use view::internal::px;
 
 // The luma of each pixel.
 pub fn luma_plane(capture: RgbImage, luma: &mut [f32])
@@ -50,10 +51,10 @@ pub fn reading(capture: RgbImage, p: Point) -> Rgb
 {
     let across = neighbours(capture.w, p.x);
     let down = neighbours(capture.h, p.y);
-    let a = capture.px(across.first, down.first);
-    let b = capture.px(across.next, down.first);
-    let c = capture.px(across.first, down.next);
-    let d = capture.px(across.next, down.next);
+    let a = px(capture, across.first, down.first);
+    let b = px(capture, across.next, down.first);
+    let c = px(capture, across.first, down.next);
+    let d = px(capture, across.next, down.next);
     let tx = across.part;
     let ty = down.part;
     Rgb {

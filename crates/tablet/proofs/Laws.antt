@@ -6,10 +6,14 @@ use Prim.Native.Nat.{ℕ, zero, suc, ◌*◌, ◌^◌, ◌≤◌, ◌<◌}
 use native.Mathlib.Nat.{mul-le-mul}
 use native.Mathlib.Omega.{arith}
 use lib.Dec.{leb}
-use lib.ListN.{length, set}
+use lib.ListN.{length, set, length-append, length-drop}
 use Rattle.frame.specs.Refusals.{number, Check, check, lowest_of}
 use Rattle.frame.specs.declared.refusals.Refusal.{Refusal}
 use Rattle.tablet.specs.Slices.{written, answered, Answer, told}
+
+pub length_written : {A : Type 0} (v l : List A) → length v ≤ length l → length (written v l) ≡ length l
+unfolding written
+length_written v l h = simp (length-append, length-drop) (omega arith)
 
 -- one value more, stored behind those that were written
 pub written_next : {A : Type 0} (v l : List A) (b : A) → length v < length l → set (written v l) (length v) b ≡ written (v ++ (b ∷ [])) l

@@ -28,13 +28,13 @@ impl<'a> RgbImage<'a> {
         }
         Ok(new(data, w, h))
     }
+}
 
-    pub fn px(self, x: usize, y: usize) -> Rgb
-        requires { (x < self.w) × (y < self.h) }
-        ensures { result ≡ px (picture self.entry) x y }
-    {
-        frame::internal::px(self.data, self.w, self.h, x, y)
-    }
+pub fn px(v: RgbImage, x: usize, y: usize) -> Rgb
+    requires { (x < v.w) × (y < v.h) }
+    ensures { result ≡ px (picture v.entry) x y }
+{
+    frame::internal::px(v.data, v.w, v.h, x, y)
 }
 
 // A pixel of any bytes, numbers and place: refusal 2 where they are no capture, and None where the
@@ -52,5 +52,5 @@ pub fn pixel_at(
     if x >= w || y >= h {
         return Ok(None);
     }
-    Ok(Some(v.px(x, y)))
+    Ok(Some(px(v, x, y)))
 }

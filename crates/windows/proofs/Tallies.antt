@@ -16,6 +16,9 @@ use Rattle.windows.specs.Steps.{met, no_tally, tally_of, tallies}
 use Rattle.windows.specs.declared.Rectangle.{Rectangle}
 use Rattle.windows.specs.declared.tally.Tally.{Tally}
 
+pub tally_same : {t u : Tally} → t.count ≡ u.count → t.first ≡ u.first → t.nearest ≡ u.nearest → t ≡ u
+tally_same a b c = λ z. record { count = a z; first = b z; nearest = c z }
+
 -- ---- the tally of one rectangle over the patches
 module _ (t : ℕ → Rectangle) (r : Rectangle) where
   tally_begin : no_tally ≡ tally_of t 0 r

@@ -15,6 +15,7 @@ ghost use Rattle.windows.specs.Promises.{window_tests, Windowing};
 use answers::put_windows;
 use frame::Refusal;
 use rectangles::every_rectangle;
+use tally::NO_TALLY;
 use walk::walk;
 
 // So many rectangles one call takes.
@@ -83,7 +84,8 @@ pub fn patch_windows(
     ensures { Windowing patches.now n windows.now k answers.old answers.new (number_of result) }
 {
     refused(patches, n, windows, k, answers)?;
-    let tallies = walk(patches, n, windows, k)?;
+    let mut tallies = [NO_TALLY; MOST_WINDOWS];
+    walk(patches, n, windows, k, &mut tallies)?;
     put_windows(&tallies[..k], answers);
     Ok(())
 }

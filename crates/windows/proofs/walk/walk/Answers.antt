@@ -6,7 +6,6 @@ use mathlib.Core.Bool.{not}
 use mathlib.Core.List.{List, ◌++◌}
 use lib.ListN.{length, get_or, take, drop}
 use lib.Seq.{length-take-le}
-use Rattle.std.specs.Prelude.{Ok}
 use Rattle.base.specs.Loops.{filled}
 use Rattle.base.proofs.Every.{every_begin, every_more, every_stops, every_end}
 use Rattle.frame.proofs.Given.{answer_first, answer_next, answer_none}
@@ -18,12 +17,14 @@ use Rattle.windows.proofs.Tallies.{tallies_begin, tallies_long, tallies_few, tal
 use Rattle.windows.proofs.walk.walk.Goals as goal
 
 pub loop-j-init : goal.loop-j-init
-loop-j-init c = record { met = tallies_begin c.args.patches.now c.args.windows.now c.args.k c.requires.1; boxes = every_begin _ }
+loop-j-init c =
+    let p = c.requires in
+    record { met = p.4 ∙ tallies_begin c.args.patches.now c.args.windows.now c.args.k p.1; boxes = every_begin _ }
 
 pub returns-then-not-valid : goal.returns-then-not-valid
 returns-then-not-valid c =
     let tested = sym (c.valid.ensures ∙ ap valid c.box_at-b.ensures) ∙ c.if-not-valid.true in
-    answer_first _ _ _ _ (ap not (every_stops _ c.loop-j.j c.args.n (omega arith) tested))
+    record { tested = answer_first _ _ _ _ (ap not (every_stops _ c.loop-j.j c.args.n (omega arith) tested)); told = tt }
 
 -- as many tallies are handed on as are asked for
 handed : (patches windows : List ℕ) (k j : ℕ) (x : List Tally) → k ≤ 64 → x ≡ tallies patches j windows k → length (take k x) ≡ k
@@ -66,5 +67,7 @@ pub returns : goal.returns
 returns c =
     let l = c.loop-j in
     let e : l.j ≡ c.args.n = omega arith in
-    ap Ok (l.invariant.met ∙ ap (λ j. tallies c.args.patches.now j c.args.windows.now c.args.k) e)
-    ∙ answer_next _ _ _ _ (ap not (every_end _ l.j _ l.invariant.boxes e)) (answer_none _)
+    record {
+      tested = answer_next _ _ _ _ (ap not (every_end _ l.j _ l.invariant.boxes e)) (answer_none _);
+      told = l.invariant.met ∙ ap (λ j. tallies c.args.patches.now j c.args.windows.now c.args.k) e;
+    }
