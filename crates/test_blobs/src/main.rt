@@ -10,12 +10,13 @@ use console::Console;
 use frame::Refusal;
 use std::io;
 
-// The areas of a mask of 64 by 64 pixels.
+// The areas of a mask of 64 by 64 pixels. They are lent: a struct that holds arrays is built beside
+// them and copied.
 #[derive(Drop)]
-struct Areas {
-    seen: [u8; 4096],
-    waiting: [u32; 4096],
-    patches: [u64; 16384],
+struct Areas<'a> {
+    seen: &'a mut [u8],
+    waiting: &'a mut [u32],
+    patches: &'a mut [u64],
 }
 
 fn main(rt: HostRuntime) -> io::Result<()> {
@@ -29,9 +30,9 @@ fn main(rt: HostRuntime) -> io::Result<()> {
 // The areas are not cleared between two masks.
 fn label_all(console: &mut Console, input: &[u8]) {
     let mut areas = Areas {
-        seen: [9; 4096],
-        waiting: [9; 4096],
-        patches: [9; 16384],
+        seen: &mut [9; 4096],
+        waiting: &mut [9; 4096],
+        patches: &mut [9; 16384],
     };
     let mut rest = input;
     while 16 <= rest.len() {
@@ -51,14 +52,7 @@ fn pixels(w: usize, h: usize) -> usize
 }
 
 fn label(console: &mut Console, mask: &[u8], w: usize, h: usize, areas: &mut Areas) {
-    let answer = blobs::label_blobs(
-        mask,
-        w,
-        h,
-        &mut areas.seen,
-        &mut areas.waiting,
-        &mut areas.patches,
-    );
+    let answer = blobs::label_blobs(mask, w, h, areas.seen, areas.waiting, areas.patches);
     print(console, w);
     console.text(b" ");
     print(console, h);

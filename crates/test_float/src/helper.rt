@@ -33,16 +33,16 @@ impl Helper {
 
     pub fn name(self) -> &'static [u8] {
         match self {
-            Helper::Sqrt => b"sqrt",
-            Helper::Narrow => b"narrow",
-            Helper::Round => b"round",
-            Helper::ToU8 => b"to_u8",
-            Helper::ToUsize => b"to_usize",
-            Helper::Abs => b"abs",
-            Helper::Signum => b"signum",
-            Helper::Widen => b"widen",
-            Helper::Max => b"max",
-            Helper::Clamp => b"clamp",
+            Helper::Sqrt => b"sqrt ",
+            Helper::Narrow => b"narrow ",
+            Helper::Round => b"round ",
+            Helper::ToU8 => b"to_u8 ",
+            Helper::ToUsize => b"to_usize ",
+            Helper::Abs => b"abs ",
+            Helper::Signum => b"signum ",
+            Helper::Widen => b"widen ",
+            Helper::Max => b"max ",
+            Helper::Clamp => b"clamp ",
         }
     }
 

@@ -28,7 +28,6 @@ fn compare_all(console: &mut Console, b: &[u8]) {
         let n = vectors::word(b, i);
         let run = compare(b, *helper, at, n);
         console.text(helper.name());
-        console.text(b" ");
         if run.agree < n {
             print_difference(console, b, *helper, run);
             return;
