@@ -16,7 +16,7 @@ pub enum Helper {
 }
 
 impl Helper {
-    pub fn all() -> [Helper; 10] {
+    pub(crate) fn all() -> [Helper; 10] {
         [
             Helper::Sqrt,
             Helper::Narrow,
@@ -31,7 +31,7 @@ impl Helper {
         ]
     }
 
-    pub fn name(self) -> &'static [u8] {
+    pub(crate) fn name(self) -> &'static [u8] {
         match self {
             Helper::Sqrt => b"sqrt ",
             Helper::Narrow => b"narrow ",
@@ -47,7 +47,7 @@ impl Helper {
     }
 
     // The words of a vector: its arguments and the answer.
-    pub fn words(self) -> usize
+    pub(crate) fn words(self) -> usize
         ensures least { 2 ≤ result }
         ensures most { result ≤ 4 }
     {
@@ -59,7 +59,7 @@ impl Helper {
     }
 
     // The answer to the arguments from word p on.
-    pub fn answer(self, b: &[u8], p: usize) -> u64
+    pub(crate) fn answer(self, b: &[u8], p: usize) -> u64
         requires { p ≤ 1000000 }
     {
         let w = vectors::word(b, p);
